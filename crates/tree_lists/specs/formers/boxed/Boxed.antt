@@ -1,0 +1,89 @@
+-- `Boxed` as a type that may hold the type that holds it. Its value is the value in the box.
+use mathlib.Core.Path.{◌≡◌, refl, subst}
+use mathlib.Core.List.{List, [], ◌∷◌}
+use mathlib.Core.Former.{Former, this, const, pair, via, arity, children}
+use mir.Val.{Val}
+use Prim.Native.Nat.{ℕ}
+use base.Stored.{gnil}
+use base.Fml.{Lft, ftrue}
+use denote.RattleType.{RattleType}
+use denote.Memory.{part_of}
+use denote.RawPtr.{Ptr}
+use denote.Sharing.{nothing}
+use denote.Known.{Says, Known, Says-map, Behind, view_owned, view_shared, declared_known, holder_known}
+use denote.HoleLaws.{Alike}
+use denote.HolePlaces.{Recodes, struct_places, laid, one_value}
+use denote.Hole.Carrier.{listed}
+use denote.Hole.Fix.{over}
+use denote.Param.Weighed.{Weighed}
+use denote.Model.Placed.{view_places}
+use Rattle.std.specs.declared.boxed.Box.{Box}
+use Rattle.std.specs.contracts.boxed.Box as box
+use Rattle.std.specs.declared.alloc.Global.{Global}
+use Rattle.std.specs.contracts.alloc.Global as heap
+use Rattle.std.specs.contracts.impls.GlobalAllocator.TheImpl.{ghosts}
+use Rattle.tree_lists.specs.declared.boxed.Boxed.TheInside.{Inside}
+use Rattle.tree_lists.specs.declared.boxed.Boxed.TheView.{view, invariant}
+use Rattle.tree_lists.specs.contracts.boxed.Boxed as C
+use Rattle.tree_lists.specs.contracts.boxed.Boxed.TheInside as I
+
+abbrev pub the_former : Former {0} → Former {0}
+the_former g = g
+
+abbrev pub the_weighed : {g : Former {0}} → Weighed g → Weighed (the_former g)
+the_weighed w = w
+
+abbrev pub the_items : (X : Type 0) → X → List X
+the_items X x = x ∷ []
+
+pub the_items_listed : (X : Type 0) (x : X) → listed (arity (the_former this) ((the_former this).shape X x)) (children (the_former this) X x) ≡ the_items X x
+the_items_listed X x = refl
+
+-- the fields, which show the value once
+abbrev fields : Former {0}
+fields = via (pair (const (Ptr × Global)) this) Inside (λ X a. ((a.inner.ptr, a.inner.alloc), a.inner.value))
+    (λ X v. record { inner = record { ptr = v.0.0; alloc = v.0.1; value = v.1 } }) (λ X a. refl) (λ X v. refl)
+
+abbrev with_value : {X Y : Type 0} → Box X Global → Y → Box Y Global
+with_value b y = record { ptr = b.ptr; alloc = b.alloc; value = y }
+
+abbrev box_of : RattleType → RattleType
+box_of R = box.the_row R heap.the_row ghosts
+
+module _ (R S : RattleType) (h : R.Denot → S.Denot) where
+  box_places : Alike R S h → Alike (box_of R) (box_of S) (λ b. with_value b (h b.value))
+  unfolding part_of
+  box_places a = record {
+    mir_same = λ i. (box_of (one_value R (a.mir_same i) (λ _. ftrue) (λ _ _. nothing) gnil)).mir;
+    own_same = λ b i. (box_of (one_value R (a.mir_same i) (a.own_same b.value i) (a.shr_same b.value i) gnil)).own_val (with_value b tt);
+    shr_same = λ b i. (box_of (one_value R (a.mir_same i) (a.own_same b.value i) (a.shr_same b.value i) gnil)).shr_at (with_value b tt);
+  }
+
+  pub the_places : Alike R S h → Alike (C.the_row R) (C.the_row S) ((the_former this).map R.Denot S.Denot h)
+  the_places a = view_places fields this view (λ X Y k u. refl) (λ X u. refl) R.Denot S.Denot h (C.the_row R).coded (C.the_row S).coded
+      (invariant R.Denot) (invariant S.Denot) (λ u p q. refl) (λ u p q. refl) (λ u e. tt) (λ u e. tt)
+      (over (I.the_row R)) (over (I.the_row S))
+      (struct_places (I.the_type R) (I.the_type S) ((λ b. with_value b (h b.value)), tt) _ (λ d. refl) refl (laid _ _ _ (box_places a), tt))
+
+  pub the_codes_placed : Recodes R S h → Recodes (C.the_row R) (C.the_row S) ((the_former this).map R.Denot S.Denot h)
+  the_codes_placed e x = e x
+
+-- what is known of the value
+module _ (R : RattleType) (k : Known R) where
+  abbrev boxed : Known (box_of R)
+  boxed = holder_known R k (box.struct R heap.the_row ghosts) (box.the_codes _ _ R.coded heap.the_row.coded) (λ b. b.ptr) (λ b. b.value) _
+
+  abbrev inside : Known (I.the_row R)
+  inside = declared_known (I.the_type R) (boxed, tt)
+
+  shown : (x : R.Denot) → Behind (I.the_row R) inside R.Denot (C.the_row R).coded (C.the_view R) (C.the_invariant R) x → k.Fact x
+  shown x w = subst k.Fact w.1.0 w.2.0
+
+  pub known_owned : (x : R.Denot) (vs : List Val) → Says ((C.the_row R).own_val x vs) (k.Fact x)
+  known_owned x vs = Says-map _ (shown x) (view_owned (I.the_row R) inside R.Denot (C.the_row R).coded (C.the_view R) (C.the_invariant R) x vs)
+
+  pub known_shared : (x : R.Denot) (b o : ℕ) (κ : Lft) → Says ((C.the_row R).shr_at x b o κ) (k.Fact x)
+  known_shared x b o κ = Says-map _ (shown x) (view_shared (I.the_row R) inside R.Denot (C.the_row R).coded (C.the_view R) (C.the_invariant R) x b o κ)
+
+  abbrev pub the_facts : Known (C.the_row R)
+  the_facts = record { Fact = k.Fact; owned = known_owned; shared = known_shared }
