@@ -1,0 +1,4 @@
+pub mod Code
+pub mod Falls
+pub mod Tree
+pub mod View

@@ -1,0 +1,3 @@
+pub mod Code
+pub mod Tree
+pub mod View
