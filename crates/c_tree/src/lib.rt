@@ -8,7 +8,8 @@
 //! `use Rattle.c_tree.specs.declared.program.CFunction.{CFunction}`, and reads `f.name`, a list of
 //! bytes, and `f.body`, a list of statements. `CDeclaration` and `CCallee` are data types, with
 //! their constructors in `declared.program.CDeclaration.TheVariants` and
-//! `declared.statement.CCallee.TheVariants`.
+//! `declared.statement.CCallee.TheVariants`. For a recursion over statements and lists of them,
+//! `statement_size` and `body_size` of `specs/Tree.antt` are measures.
 //!
 //! The trees are plain: that names are identifiers and differ, that numbers are in range, and how
 //! deep a text may be nested, is asked elsewhere.

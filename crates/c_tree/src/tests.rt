@@ -103,26 +103,20 @@ fn repeated(alloc: Global) -> Result<Items<CStatement>, AllocError> {
     Ok(all)
 }
 
-/// How many statements a list has, with those inside others.
-fn count_of(statements: &[CStatement]) -> u64 {
-    let mut count = 0u64;
-    for statement in statements {
-        let inside = match &statement.node {
-            CStatementNode::If(_, body) => count_of(body.as_slice()),
-            CStatementNode::While(_, body) => count_of(body.as_slice()),
-            CStatementNode::IfElse(_, body, other) => {
-                count_of(body.as_slice()).saturating_add(count_of(other.as_slice()))
-            }
-            _ => 0,
-        };
-        count = count.saturating_add(inside).saturating_add(1);
-    }
-    count
-}
-
 #[test]
 fn one_statement_of_each_kind_is_built(rt: HostRuntime) -> Result<(), Fail> {
-    assert_eq!(rt; count_of(decisions(rt.alloc())?.as_slice()), 13);
+    let made = decisions(rt.alloc())?;
+    let [choice, repetition] = made.as_slice() else {
+        return Err("two statements hold the others".into());
+    };
+    let CStatementNode::If(_, simple) = &choice.node else {
+        return Err("the first is no choice".into());
+    };
+    let CStatementNode::While(_, body) = &repetition.node else {
+        return Err("the second is no repetition".into());
+    };
+    assert_eq!(rt; simple.len(), 8);
+    assert_eq!(rt; body.len(), 3);
     Ok(())
 }
 
@@ -187,6 +181,6 @@ fn a_program_is_built_and_dropped(rt: HostRuntime) -> Result<(), Fail> {
         },
     };
     assert_eq!(rt; program.functions.len(), 1);
-    assert_eq!(rt; count_of(program.main.body.as_slice()), 3);
+    assert_eq!(rt; program.main.body.len(), 3);
     Ok(())
 }

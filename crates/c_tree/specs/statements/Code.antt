@@ -4,7 +4,6 @@ use Rattle.std.specs.Coded.{Coded}
 use Rattle.std.proofs.Common.{ap}
 use base.Stored.{Gv, gnil, gnum, gcons, num}
 use Rattle.c_tree.specs.Codes.{Stored, coded, node, pick, names, lists, options}
-use Rattle.c_tree.specs.types.Tree.{ObjectType}
 use Rattle.c_tree.specs.types.Code.{types}
 use Rattle.c_tree.specs.expressions.Tree.{Expr, Place}
 use Rattle.c_tree.specs.expressions.Code.{exprs, places}

@@ -1,5 +1,5 @@
 -- Each part of a statement is smaller than the statement.
-use Rattle.std.specs.Prelude.{ℕ, ◌+◌, ◌≤◌, max, List, [], ◌∷◌}
+use Rattle.std.specs.Prelude.{◌+◌, ◌≤◌, max, List, [], ◌∷◌}
 use Rattle.std.proofs.Common.{arith}
 use denote.Param.Weighed.{most}
 use Rattle.c_tree.specs.statements.Tree.{Statement, body_of, statement_size, body_size}

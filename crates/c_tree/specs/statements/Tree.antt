@@ -1,5 +1,5 @@
 -- Statements, as contracts see them.
-use Rattle.std.specs.Prelude.{◌≡◌, ℕ, ◌+◌, max, List, [], ◌∷◌, Option, refl}
+use Rattle.std.specs.Prelude.{◌≡◌, ℕ, ◌+◌, List, [], ◌∷◌, Option, refl}
 use Rattle.std.proofs.Common.{ap}
 use Rattle.c_tree.specs.types.Tree.{ObjectType}
 use Rattle.c_tree.specs.expressions.Tree.{Expr, Place}
@@ -41,14 +41,14 @@ pub body_of-list_of : (body : Body) → body_of (list_of body) ≡ body
 body_of-list_of Empty = refl
 body_of-list_of (Then s rest) = ap (λ l. Then s l) (body_of-list_of rest)
 
--- how deep it is
+-- how many statements are in it, and the braces around them: more than in each part
 abbrev mutual
   pub statement_size : Statement → ℕ
-  statement_size (If test a) = body_size a
-  statement_size (IfElse test a b) = max (body_size a) (body_size b)
-  statement_size (While test a) = body_size a
+  statement_size (If test a) = body_size a + 1
+  statement_size (IfElse test a b) = body_size a + body_size b + 1
+  statement_size (While test a) = body_size a + 1
   statement_size _ = 0
 
   pub body_size : Body → ℕ
   body_size Empty = 0
-  body_size (Then s rest) = max (statement_size s + 1) (body_size rest)
+  body_size (Then s rest) = statement_size s + 1 + body_size rest
