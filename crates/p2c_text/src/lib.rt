@@ -4,6 +4,8 @@
 mod dialect;
 mod name;
 mod place;
+#[cfg(test)]
+mod tests;
 mod text;
 
 pub use dialect::Dialect;
