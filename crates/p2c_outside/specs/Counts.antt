@@ -1,4 +1,4 @@
--- Counts of what failed. An implementation may keep one in 64 bits, where it stops at the last value.
+-- Counts of what failed. One that is kept in 64 bits stops at the last value.
 use Rattle.std.specs.Prelude.{◌≡◌, ℕ, ◌+◌, ◌-◌, ◌^◌, ◌<◌, ◌⊎◌, min}
 
 -- where a count of 64 bits stops

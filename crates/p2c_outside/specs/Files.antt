@@ -7,4 +7,5 @@ use Rattle.p2c_outside.specs.Told.{Named}
 -- the bytes of the first file that has the name
 abbrev pub file_of : List NamedBytes → Named
 file_of [] name = None
-file_of (file ∷ files) name = if bytes_eq file.name name then Some file.bytes else file_of files name
+file_of (file ∷ files) name =
+    if bytes_eq file.name name then Some file.bytes else file_of files name

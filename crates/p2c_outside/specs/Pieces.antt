@@ -1,7 +1,7 @@
 -- Pieces of bytes that one call moves.
 use Rattle.std.specs.Prelude.{ℕ, List, ◌++◌, take, drop, min}
 
--- how many bytes a call moves: it has room for so many, `most` is its own bound, and so many are there
+-- how many bytes a call moves, where it has this room, moves at most so many, and so many are there
 abbrev pub moved : ℕ → ℕ → ℕ → ℕ
 moved room most there = min (min room most) there
 

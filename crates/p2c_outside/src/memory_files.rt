@@ -48,15 +48,21 @@ impl Files for MemoryFiles {
     fn read(&mut self, name: &str, at: u64, into: &mut [u8]) -> Result<usize, FileFault>
         requires { 0 < length into.old }
 
-        ensures absent { (result ≡ Err FileFault.Missing) ↔ (file_of self.old.names.items name.now ≡ None) }
-        ensures fails { (result ≡ Err FileFault.Failed) ↔ (IsSome (file_of self.old.names.items name.now)
+        ensures absent { (result ≡ Err FileFault.Missing)
+            ↔ (file_of self.old.names.items name.now ≡ None) }
+        ensures fails { (result ≡ Err FileFault.Failed)
+            ↔ (IsSome (file_of self.old.names.items name.now)
             × Contains self.old.fail.items (next_count self.old.calls)) }
         ensures missing_never_falls { self.old.missing ≤ self.new.missing }
         ensures faults_never_fall { self.old.faults ≤ self.new.faults }
-        ensures missed { result ≡ Err FileFault.Missing → self.new.missing ≡ next_count self.old.missing }
-        ensures none_missing { result ≢ Err FileFault.Missing → self.new.missing ≡ self.old.missing }
-        ensures failed { result ≡ Err FileFault.Failed → self.new.faults ≡ next_count self.old.faults }
-        ensures no_fault { result ≢ Err FileFault.Failed → self.new.faults ≡ self.old.faults }
+        ensures missed { result ≡ Err FileFault.Missing →
+            self.new.missing ≡ next_count self.old.missing }
+        ensures none_missing { result ≢ Err FileFault.Missing →
+            self.new.missing ≡ self.old.missing }
+        ensures failed { result ≡ Err FileFault.Failed →
+            self.new.faults ≡ next_count self.old.faults }
+        ensures no_fault { result ≢ Err FileFault.Failed →
+            self.new.faults ≡ self.old.faults }
         ensures counted { self.new.calls ≡ next_count self.old.calls }
 
         ensures count { IfOk result (λ n. HasFile (file_of self.old.names.items name.now)

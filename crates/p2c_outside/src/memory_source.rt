@@ -38,8 +38,8 @@ impl Source for MemorySource {
         ensures no_fault { OnOk result (self.new.faults ≡ self.old.faults) }
         ensures counted { self.new.calls ≡ next_count self.old.calls }
 
-        ensures count { IfOk result (λ n. n ≡
-            moved (length into.old) self.old.most (length (drop self.old.at self.old.bytes.items))) }
+        ensures count { IfOk result (λ n. n ≡ moved (length into.old) self.old.most
+            (length (drop self.old.at self.old.bytes.items))) }
         ensures copied { IfOk result (λ n.
             into.new ≡ with_front n (drop self.old.at self.old.bytes.items) into.old) }
         ensures taken { IfOk result (λ n. drop self.old.at self.old.bytes.items

@@ -56,7 +56,8 @@ pub trait Sink {
 
         ensures some { IfOk result (λ n. 1 ≤ n) }
         ensures within { IfOk result (λ n. n ≤ length piece.now) }
-        ensures put { IfOk result (λ n. Gains (written self.old) (written self.new) (take n piece.now)) }
+        ensures put { IfOk result (λ n.
+            Gains (written self.old) (written self.new) (take n piece.now)) }
         ensures kept { OnErr result (written self.new ≡ written self.old) };
 }
 
@@ -72,7 +73,7 @@ pub trait Files {
     ghost faults: { Self → ℕ };
 
     /// Reads bytes of the file from the place `at` on into the front of `into`, and answers how
-    /// many. After a refusal `into` holds any bytes.
+    /// many. An answer of 0 is the end. After a refusal `into` holds any bytes.
     fn read(&mut self, name: &str, at: u64, into: &mut [u8]) -> Result<usize, FileFault>
         requires { 0 < length into.old }
 
@@ -80,8 +81,10 @@ pub trait Files {
         ensures faults_never_fall { faults self.old ≤ faults self.new }
         ensures none_missing { OnOk result (missing self.new ≡ missing self.old) }
         ensures no_fault { OnOk result (faults self.new ≡ faults self.old) }
-        ensures missed { result ≡ Err FileFault.Missing → Rose (missing self.old) (missing self.new) }
-        ensures failed { result ≡ Err FileFault.Failed → Rose (faults self.old) (faults self.new) }
+        ensures missed { result ≡ Err FileFault.Missing →
+            Rose (missing self.old) (missing self.new) }
+        ensures failed { result ≡ Err FileFault.Failed →
+            Rose (faults self.old) (faults self.new) }
 
         ensures same { told self.new ≡ told self.old }
         ensures within { IfOk result (λ n. n ≤ length into.new) }

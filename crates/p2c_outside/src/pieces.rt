@@ -3,7 +3,7 @@ ghost use Rattle.p2c_outside.specs.Pieces.{moved, with_front};
 
 /// Copies bytes of `from`, from `at` on, into the front of `into`, at most `most` of them, and
 /// answers how many.
-pub fn fill_front(from: &[u8], at: usize, most: usize, into: &mut [u8]) -> usize
+pub(crate) fn fill_front(from: &[u8], at: usize, most: usize, into: &mut [u8]) -> usize
     requires { at ≤ length from.now }
     ensures count { result ≡ moved (length into.old) most (length (drop at from.now)) }
     ensures copied { into.new ≡ with_front result (drop at from.now) into.old }
@@ -17,7 +17,7 @@ pub fn fill_front(from: &[u8], at: usize, most: usize, into: &mut [u8]) -> usize
 }
 
 /// Whether the number of a call is listed.
-pub fn is_listed(list: &[u64], call: u64) -> bool
+pub(crate) fn is_listed(list: &[u64], call: u64) -> bool
     ensures { IsTrue result ↔ Contains list.now call }
 {
     list.contains(&call)

@@ -5,12 +5,11 @@ ghost use Rattle.std.specs.Io.KnownBytes.{Appends, ReadConsumes};
 ghost use Rattle.p2c_outside.specs.Counts.{next_count};
 
 use crate::outside::{Failed, FileFault, Files, Sink, Source};
-use std::fs;
 use std::io::{ErrorKind, Read, Seek, SeekFrom, Write};
-use std::rt;
+use std::{fs, rt};
 
 /// A source over a reader, as standard input.
-#[derive(Drop)]
+#[derive(Debug, Drop)]
 pub struct StdSource<R> {
     pub input: R,
     /// How many calls failed. The count stops at its last value.
@@ -18,7 +17,7 @@ pub struct StdSource<R> {
 }
 
 /// A sink over a writer, as standard output or standard error.
-#[derive(Drop)]
+#[derive(Debug, Drop)]
 pub struct StdSink<W> {
     pub output: W,
     /// How many calls failed. The count stops at its last value.
@@ -26,7 +25,7 @@ pub struct StdSink<W> {
 }
 
 /// The files that the runtime reaches.
-#[derive(Drop)]
+#[derive(Debug, Drop)]
 pub struct RealFiles<R> {
     pub runtime: R,
     /// How many calls found no file. The count stops at its last value.
@@ -139,10 +138,14 @@ impl<R: rt::Files> Files for RealFiles<R> {
 
         ensures missing_never_falls { self.old.missing ≤ self.new.missing }
         ensures faults_never_fall { self.old.faults ≤ self.new.faults }
-        ensures missed { result ≡ Err FileFault.Missing → self.new.missing ≡ next_count self.old.missing }
-        ensures none_missing { result ≢ Err FileFault.Missing → self.new.missing ≡ self.old.missing }
-        ensures failed { result ≡ Err FileFault.Failed → self.new.faults ≡ next_count self.old.faults }
-        ensures no_fault { result ≢ Err FileFault.Failed → self.new.faults ≡ self.old.faults }
+        ensures missed { result ≡ Err FileFault.Missing →
+            self.new.missing ≡ next_count self.old.missing }
+        ensures none_missing { result ≢ Err FileFault.Missing →
+            self.new.missing ≡ self.old.missing }
+        ensures failed { result ≡ Err FileFault.Failed →
+            self.new.faults ≡ next_count self.old.faults }
+        ensures no_fault { result ≢ Err FileFault.Failed →
+            self.new.faults ≡ self.old.faults }
 
         ensures within { IfOk result (λ n. n ≤ length into.new) }
     {

@@ -1,9 +1,8 @@
 use super::{puts, read_from, takes};
 use crate::{RealFiles, StdSink, StdSource};
-use std::io;
 use std::io::{ErrorKind, Read, Write};
 use std::test::Fail;
-use std::{fs, process};
+use std::{fs, io, process};
 
 /// A reader that is interrupted, gives a byte, fails, gives another and ends.
 #[derive(Drop)]
@@ -83,7 +82,11 @@ fn a_put_writes_the_whole_piece_or_fails(rt: HostRuntime) -> Result<(), Fail> {
             },
             faults: 0,
         };
-        assert_eq!(rt; puts(rt.alloc(), &mut sink, 2)?.as_str(), want, "with room for {room}");
+        assert_eq!(rt;
+            puts(rt.alloc(), &mut sink, 2)?.as_str(),
+            want,
+            "with room for {room}"
+        );
         assert_eq!(rt; sink.output.out, out);
         assert_eq!(rt; sink.faults, faults);
     }
