@@ -1,0 +1,9 @@
+use Rattle.std.proofs.Common.{◌≡◌, ◌++◌, length}
+use Rattle.c_printer.specs.Text.{more_exprs_text}
+use Rattle.c_printer.proofs.statement.put_more_arguments.Given as goal
+
+abbrev pub invariant-loop-rest : goal.invariant-loop-rest
+invariant-loop-rest l = l.out.items ++ more_exprs_text l.rest ≡ l.initial.out.items ++ more_exprs_text l.initial.rest
+
+abbrev pub decreases-loop-rest : goal.decreases-loop-rest
+decreases-loop-rest l = length l.rest
