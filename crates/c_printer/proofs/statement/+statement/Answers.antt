@@ -1,4 +1,3 @@
-use Rattle.std.proofs.Common.{refl}
 use Rattle.c_printer.proofs.statement.+statement.Goals as goal
 
 pub put_statement-returns-in-Malloc : goal.put_statement-returns-in-Malloc

@@ -1,0 +1,27 @@
+//! The C program that writes given bytes.
+
+use c_tree::expr::CExpr;
+use c_tree::program::{CMain, CProgram};
+use c_tree::statement::CStatement;
+use std::alloc::{AllocError, Global};
+use tree_lists::Items;
+
+/// One `putchar` for each byte, and `return INT64_C(0);`.
+pub fn writer(alloc: Global, bytes: &[u8]) -> Result<CProgram, AllocError> {
+    let mut body = Vec::with_capacity(alloc, bytes.len())?;
+    for byte in bytes {
+        body.push(CStatement::put_char(CExpr::number(u64::from(*byte))))?;
+    }
+    body.push(CStatement::return_of(Some(CExpr::number(0))))?;
+    Ok(CProgram {
+        forwards: Items::new(alloc),
+        declarations: Items::new(alloc),
+        globals: Items::new(alloc),
+        prototypes: Items::new(alloc),
+        functions: Items::new(alloc),
+        main: CMain {
+            locals: Items::new(alloc),
+            body: Items::from_vec(body),
+        },
+    })
+}
