@@ -1,5 +1,8 @@
 //! The C program that writes given bytes.
 
+ghost use Rattle.std.specs.Prelude.{◌≡◌, IfOk, map};
+ghost use Rattle.p2c_main.specs.Writer.{put_of, writer_of};
+
 use c_tree::expr::CExpr;
 use c_tree::program::{CMain, CProgram};
 use c_tree::statement::CStatement;
@@ -7,11 +10,10 @@ use std::alloc::{AllocError, Global};
 use tree_lists::Items;
 
 /// One `putchar` for each byte, and `return INT64_C(0);`.
-pub fn writer(alloc: Global, bytes: &[u8]) -> Result<CProgram, AllocError> {
-    let mut body = Vec::with_capacity(alloc, bytes.len())?;
-    for byte in bytes {
-        body.push(CStatement::put_char(CExpr::number(u64::from(*byte))))?;
-    }
+pub fn writer(alloc: Global, bytes: &[u8]) -> Result<CProgram, AllocError>
+    ensures { IfOk result (λ program. program ≡ writer_of bytes.now) }
+{
+    let mut body = puts(alloc, bytes)?;
     body.push(CStatement::return_of(Some(CExpr::number(0))))?;
     Ok(CProgram {
         forwards: Items::new(alloc),
@@ -21,7 +23,17 @@ pub fn writer(alloc: Global, bytes: &[u8]) -> Result<CProgram, AllocError> {
         functions: Items::new(alloc),
         main: CMain {
             locals: Items::new(alloc),
-            body: Items::from_vec(body),
+            body,
         },
     })
+}
+
+fn puts(alloc: Global, bytes: &[u8]) -> Result<Items<CStatement>, AllocError>
+    ensures { IfOk result (λ body. body ≡ map put_of bytes.now) }
+{
+    let mut body = Vec::with_capacity(alloc, bytes.len())?;
+    for byte in bytes {
+        body.push(CStatement::put_char(CExpr::number(u64::from(*byte))))?;
+    }
+    Ok(Items::from_vec(body))
 }

@@ -1,11 +1,14 @@
 //! The top call.
 
-ghost use Rattle.std.specs.Prelude.{◌≡◌, ◌≢◌, ◌<◌, ◌↔◌, ◌⊎◌, None, length};
+ghost use Rattle.std.specs.Prelude.{◌≡◌, ◌≢◌, ◌<◌, ◌↔◌, ◌⊎◌, ℕ, List, None, IfOk, IfSome, length};
 ghost use Rattle.p2c_outside.specs.Counts.{Rose};
-ghost use Rattle.p2c_outside.specs.Told.{WhereTold};
+ghost use Rattle.p2c_outside.specs.Told.{Gains, WhereTold};
 ghost use Rattle.p2c_main.specs.Messages.{Reports, status_of};
 ghost use Rattle.p2c_main.specs.Reading.{Lacks, outcome_of};
 ghost use Rattle.p2c_main.specs.Words.{file_asked, name_asked};
+ghost use Rattle.p2c_main.specs.Writer.{writer_of, GainsWriter, GainsWriterPart};
+ghost use Rattle.p2c_main.specs.Written.{GainsPart};
+ghost use Rattle.c_printer.specs.Text.{program_text};
 
 use crate::literals::written_by;
 use crate::lower::writer;
@@ -33,6 +36,10 @@ pub fn p2c<F: Files, I: Source, O: Sink, E: Sink>(
     ensures absent { result ≡ 242 → Lacks (F.told files.old) (name_asked words.now) }
     ensures read_fault { result ≡ 243 → Rose (F.faults files.old) (F.faults files.new) }
     ensures write_fault { result ≡ 244 → Rose (O.faults out.old) (O.faults out.new) }
+
+    // what the output took
+    ensures done { result ≡ 0 → GainsWriter (O.written out.old) (O.written out.new) }
+    ensures cut { result ≡ 244 → GainsWriterPart (O.written out.old) (O.written out.new) }
 
     // no fault is swallowed
     ensures none_missing { result ≢ 242 → result ≢ 243 → F.missing files.new ≡ F.missing files.old }
@@ -64,6 +71,8 @@ fn translate<F: Files, O: Sink>(alloc: Global, files: &mut F, name: &str, out: &
     ensures absent { result ≡ Outcome.Missing → Lacks (F.told files.old) name.now }
     ensures read_fault { result ≡ Outcome.ReadFault → Rose (F.faults files.old) (F.faults files.new) }
     ensures write_fault { result ≡ Outcome.WriteFault → Rose (O.faults out.old) (O.faults out.new) }
+    ensures done { result ≡ Outcome.Done → GainsWriter (O.written out.old) (O.written out.new) }
+    ensures cut { result ≡ Outcome.WriteFault → GainsWriterPart (O.written out.old) (O.written out.new) }
     ensures too_long { result ≡ Outcome.TooLong →
         WhereTold (F.told files.old) name.now (λ bytes. LONGEST_SOURCE < length bytes) }
 
@@ -98,7 +107,10 @@ fn refused(refusal: ReadRefusal) -> Outcome
 }
 
 /// The C text, or `None` where the Pascal text is none of the form that is built.
-fn translated(alloc: Global, source: &[u8]) -> Result<Option<Vec<u8>>, AllocError> {
+fn translated(alloc: Global, source: &[u8]) -> Result<Option<Vec<u8>>, AllocError>
+    ensures { IfOk result (λ found. IfSome found (λ text.
+        (bytes : List ℕ) × (text.items ≡ program_text (writer_of bytes)))) }
+{
     let Some(written) = written_by(alloc, source)? else {
         return Ok(None);
     };
@@ -108,6 +120,8 @@ fn translated(alloc: Global, source: &[u8]) -> Result<Option<Vec<u8>>, AllocErro
 
 fn written<O: Sink>(out: &mut O, text: &[u8]) -> Outcome
     ensures either { (result ≡ Outcome.Done) ⊎ (result ≡ Outcome.WriteFault) }
+    ensures done { result ≡ Outcome.Done → Gains (O.written out.old) (O.written out.new) text.now }
+    ensures cut { result ≡ Outcome.WriteFault → GainsPart (O.written out.old) (O.written out.new) text.now }
     ensures write_fault { result ≡ Outcome.WriteFault → Rose (O.faults out.old) (O.faults out.new) }
     ensures no_write_fault { result ≢ Outcome.WriteFault → O.faults out.new ≡ O.faults out.old }
 {
