@@ -1,0 +1,13 @@
+pub mod Answer
+pub mod Cells
+pub mod Entries
+pub mod Evaluate
+pub mod Follows
+pub mod Fresh
+pub mod Runs
+pub mod States
+pub mod Steps
+pub mod Todo
+pub mod Types
+pub mod Values
+pub mod Whole
