@@ -1,2 +1,7 @@
 pub mod Build
+pub mod Calls
+pub mod Jumps
+pub mod Memory
+pub mod Names
+pub mod Operators
 pub mod Rows

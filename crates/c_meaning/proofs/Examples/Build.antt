@@ -10,6 +10,9 @@ use Rattle.c_tree.specs.declared.program.CDeclaration.TheVariants as d
 use Rattle.c_tree.specs.declared.program.CPrototype.{CPrototype}
 use Rattle.c_tree.specs.declared.program.CFunction.{CFunction}
 use Rattle.c_tree.specs.declared.program.CProgram.{CProgram}
+use Rattle.c_meaning.specs.declared.StuckKind.{StuckKind}
+use Rattle.c_meaning.specs.Runs.{CAnswer, End, Stuck}
+use Rattle.c_meaning.specs.Whole.{run}
 
 abbrev pub Text : Type 0
 Text = List ℕ
@@ -139,3 +142,23 @@ program globals prototypes functions locals body = record { forwards = []; decla
 -- a program that is `main` alone
 abbrev pub main : List CVariable → List Statement → CProgram
 main locals body = program [] [] [] locals body
+
+-- ends with the value of an expression as its status
+abbrev pub gives : Expr → CProgram
+gives e = main [] (give e ∷ [])
+
+abbrev pub expressions : List (Expr × ℕ) → List CAnswer
+expressions [] = []
+expressions (e ∷ rest) = run (gives e.0) [] 1 ∷ expressions rest
+
+abbrev pub statuses : List (Expr × ℕ) → List CAnswer
+statuses [] = []
+statuses (e ∷ rest) = End [] e.1 [] ∷ statuses rest
+
+abbrev pub stuck_expressions : List (Expr × StuckKind) → List CAnswer
+stuck_expressions [] = []
+stuck_expressions (e ∷ rest) = run (gives e.0) [] 1 ∷ stuck_expressions rest
+
+abbrev pub kinds : List (Expr × StuckKind) → List CAnswer
+kinds [] = []
+kinds (e ∷ rest) = Stuck e.1 [] ∷ kinds rest
