@@ -1,1 +1,5 @@
+mod Backward
 mod Examples
+mod Gives
+mod Grows
+mod Later

@@ -4,6 +4,7 @@ pub mod Entries
 pub mod Evaluate
 pub mod Follows
 pub mod Fresh
+pub mod Laws
 pub mod Runs
 pub mod States
 pub mod Steps

@@ -1,6 +1,8 @@
 //! The meaning of the C subset.
 #![tactic(auto)]
 
+pub mod laws;
+
 /// Why a run of a C text cannot go on.
 #[derive(Clone, Copy, Debug, PartialEq, Eq)]
 pub enum StuckKind {
