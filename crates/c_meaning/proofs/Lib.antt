@@ -1,5 +1,10 @@
 mod Backward
+mod Below
+mod Blocks
 mod Examples
 mod Gives
 mod Grows
 mod Later
+mod Memory
+mod Stays
+mod Touched

@@ -2,9 +2,11 @@
 use Rattle.std.specs.Prelude.{◌≡◌, ℕ, ◌≤◌, List}
 use Rattle.c_tree.specs.declared.program.CProgram.{CProgram}
 use Rattle.c_meaning.specs.declared.StuckKind.{StuckKind}
+use Rattle.c_meaning.specs.StateOf.{IsStateOf}
 use Rattle.c_meaning.specs.States.{State}
 use Rattle.c_meaning.specs.Steps.{Next, Onward, Ended, Halted, CStep}
-use Rattle.c_meaning.specs.Runs.{CAnswer, Going, End, Stuck, CRun}
+use Rattle.c_meaning.specs.Runs.{CAnswer, Going, End, Stuck, start, CRun}
+use Rattle.c_meaning.specs.Changes.{Changes, touched}
 use Rattle.c_meaning.specs.Follows as p
 use Rattle.c_meaning.specs.Follows.{PascalAnswer, Extends, Follows}
 
@@ -49,3 +51,15 @@ OnlyAdds st (Halted kind output) = output ≡ st.output
 -- a step only adds to output and calls
 abbrev pub StepAdds : Type 0
 StepAdds = (c : CProgram) (st : State) → OnlyAdds st (CStep c st)
+
+-- a step changes at most the blocks that it names, gives new blocks new numbers, and keeps the types of blocks
+abbrev pub StepChanges : Type 0
+StepChanges = (c : CProgram) (st new : State) → CStep c st ≡ Onward new → Changes (touched c st) st.blocks new.blocks
+
+-- a run begins in a state of its program
+abbrev pub StartIsState : Type 0
+StartIsState = (c : CProgram) (input : List ℕ) → IsStateOf c (start c input)
+
+-- and a step leads from such a state to such a state
+abbrev pub StateStays : Type 0
+StateStays = (c : CProgram) (st new : State) → IsStateOf c st → CStep c st ≡ Onward new → IsStateOf c new

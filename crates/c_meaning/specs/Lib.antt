@@ -1,11 +1,13 @@
 pub mod Answer
 pub mod Cells
+pub mod Changes
 pub mod Entries
 pub mod Evaluate
 pub mod Follows
 pub mod Fresh
 pub mod Laws
 pub mod Runs
+pub mod StateOf
 pub mod States
 pub mod Steps
 pub mod Todo
