@@ -1,10 +1,13 @@
-mod Backward
-mod Below
-mod Blocks
+pub mod Backward
+pub mod Below
+pub mod Blocks
+pub mod Comes
 mod Examples
-mod Gives
-mod Grows
-mod Later
-mod Memory
-mod Stays
-mod Touched
+pub mod Frames
+pub mod Gives
+pub mod Grows
+pub mod Later
+pub mod Memory
+pub mod Numbers
+pub mod Stays
+pub mod Touched

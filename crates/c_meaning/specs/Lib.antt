@@ -1,6 +1,7 @@
 pub mod Answer
 pub mod Cells
 pub mod Changes
+pub mod Comes
 pub mod Entries
 pub mod Evaluate
 pub mod Follows
