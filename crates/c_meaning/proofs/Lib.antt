@@ -1,6 +1,7 @@
 pub mod Backward
 pub mod Below
 pub mod Blocks
+pub mod CheckedSum
 pub mod Comes
 mod Examples
 pub mod Frames
