@@ -6,21 +6,19 @@ use Rattle.c_tree.specs.Tree as t
 use Rattle.c_tree.specs.Tree.{Expr, Statement, Body, Then, Empty}
 use Rattle.c_tree.specs.declared.operators.CUnary.TheVariants as u
 use Rattle.c_tree.specs.declared.operators.CBinary.TheVariants as b
-use Rattle.c_tree.specs.declared.statement.CCallee.TheVariants as callee
+use Rattle.c_tree.specs.declared.statement.CCallee.{CCallee}
 use Rattle.c_tree.specs.declared.program.CVariable.{CVariable}
 use Rattle.c_tree.specs.declared.program.CFunction.{CFunction}
 use Rattle.c_tree.specs.declared.program.CProgram.{CProgram}
 use Rattle.c_meaning.specs.Cells.{Name, Leaf, Int, Block, Blocks}
 use Rattle.c_meaning.specs.Values.{int, fits_int}
-use Rattle.c_meaning.specs.Answer.{Got, ◌>>=◌, or_bad}
-use Rattle.c_meaning.specs.Types.{Plain}
-use Rattle.c_meaning.specs.Evaluate.{values}
-use Rattle.c_meaning.specs.States.{Target, Into, Frame, State, function_of, reach_of, store, without}
-use Rattle.c_meaning.specs.Steps.{Next, Onward, next, with_blocks, called as called_by, target_of, parameter_blocks, names_from, enter, call, leave, do_statement, view_of, do_next, CStep}
+use Rattle.c_meaning.specs.States.{Target, Frame, State, reach_of}
+use Rattle.c_meaning.specs.Steps.{Next, Onward, leave, CStep}
 use Rattle.c_meaning.specs.Comes.{Comes}
 use Rattle.c_meaning.specs.Whole.{step}
 use Rattle.c_meaning.proofs.Numbers.{Fits, top, bottom, fits_true, fits_false_high, fits_false_low, true_lt, false_le, by_test}
-use Rattle.c_meaning.proofs.Frames.{Running, here, set_past}
+use Rattle.c_meaning.proofs.Frames.{Running, here}
+use Rattle.c_meaning.proofs.Calls.{Ready, begun, enters, lands, leaves}
 use Rattle.c_meaning.proofs.Comes.{stay, is_at, onto, one, does}
 
 -- ---- the runtime's globals, and the function
@@ -155,74 +153,40 @@ module _ (c : CProgram) (globals : List CVariable) (target : Target) (g : Frame)
 
 -- ---- a call of it, from the call statement to the statement after it
 
-module _ (c : CProgram) (globals : List CVariable) (f : Frame) (fs : List Frame) (todo : List Statement) (place : t.Place) (a b : Expr) (n : ℕ) (path : List ℕ) (input output calls : List ℕ) (rest : Blocks) (x y : ℤ) where
+module _ (c : CProgram) (globals : List CVariable) (f : Frame) (fs : List Frame) (todo : List Statement) (into : Option t.Place) (who : CCallee) (arguments : List Expr) (target : Target) (input output calls : List ℕ) (rest : Blocks) (x y : ℤ) where
   abbrev q : CProgram
   q = program c globals
 
-  abbrev statement : Statement
-  statement = t.Call (Some place) (callee.Direct p2c_add) (a ∷ b ∷ [])
-
   -- the caller, with the flag down; the call is its next statement
   abbrev pub calling : State
-  calling = record { frame = record f { todo = statement ∷ todo }; below = fs; blocks = number (pos 0) ∷ rest; input = input; output = output; calls = calls }
+  calling = record { frame = record f { todo = t.Call into who arguments ∷ todo }; below = fs; blocks = number (pos 0) ∷ rest; input = input; output = output; calls = calls }
 
-  -- the caller after the call: the two blocks of the parameters are gone
-  abbrev pub called : ℤ → State
-  called e = record { frame = record f { todo = todo }; below = fs; blocks = number e ∷ (rest ++ None ∷ None ∷ []); input = input; output = output; calls = calls }
-
-  -- it goes on, with a number in the place for the answer
-  abbrev pub lands : ℤ → ℤ → Next
-  lands e z = next (called e) (with_blocks (called e) (store (number e ∷ (rest ++ None ∷ None ∷ [])) n path (Leaf (Int z))))
+  -- the caller goes on after the call, with a number in the flag and one in the place for the answer; the blocks of the parameters are gone
+  abbrev pub lands_with : ℤ → ℤ → Next
+  lands_with e z = lands q (record f { todo = todo }) fs target input output calls (number e ∷ (rest ++ None ∷ None ∷ [])) (Some (int z))
 
   abbrev pub sum_or_error_lands : Bool → Next
-  sum_or_error_lands true = lands (pos 0) (x +ℤ y)
-  sum_or_error_lands false = lands (pos 203) (pos 0)
+  sum_or_error_lands true = lands_with (pos 0) (x +ℤ y)
+  sum_or_error_lands false = lands_with (pos 203) (pos 0)
 
-  abbrev target : Target
-  target = Into n path (Plain t.Int)
+  abbrev reach' : ℕ
+  reach' = reach_of p2c_add c.functions
 
-  -- what the caller sees at the call
-  pub record Ready : Type 0 where
-    pub callee : called_by (view_of q calling) (callee.Direct p2c_add) ≡ Got p2c_add
-    pub text : function_of p2c_add c.functions ≡ Some adder
-    pub answer : target_of (view_of q calling) (Some place) ≡ Got target
-    pub arguments : values (view_of q calling) (a ∷ b ∷ []) ≡ Got (int x ∷ int y ∷ [])
-
-  arguments_fit : parameter_blocks c.declarations adder.parameters (int x ∷ int y ∷ []) ≡ Got (number x ∷ number y ∷ [])
+  begins : Onward (begun q calling todo adder target (number x ∷ number y ∷ [])) ≡ at c globals target (record f { todo = todo }) fs reach' calls input output rest x y (pos 0) (choice ∷ sum ∷ [])
   unfolding step
-  arguments_fit = refl
+  begins = refl
 
-  enters : Ready → CStep q calling ≡ Onward (enter q calling todo adder target (number x ∷ number y ∷ []))
-  unfolding CStep do_next do_statement call next ◌>>=◌ or_bad
-  enters h = rw (h.callee, h.answer, h.arguments, h.text, arguments_fit) refl
+  stored : (e z : ℤ) → returns c globals target (record f { todo = todo }) fs reach' calls input output rest x y e z ≡ lands_with e z
+  stored e z = leaves q (r c globals target (record f { todo = todo }) fs reach' calls input output rest x y) (record f { todo = todo }) fs input output (number e ∷ rest) (number x ∷ number y ∷ []) [] [] (Some (int z)) refl refl refl
 
-  abbrev caller : Frame
-  caller = record f { todo = todo }
-
-  entered : Onward (enter q calling todo adder target (number x ∷ number y ∷ [])) ≡ at c globals target caller fs (reach_of p2c_add c.functions) calls input output rest x y (pos 0) (choice ∷ sum ∷ [])
-  unfolding step
-  entered = refl
-
-  parameters_gone : (e : ℤ) → without (names_from (length (number e ∷ rest)) (variable a_name ∷ variable b_name ∷ [])) (number e ∷ (rest ++ number x ∷ number y ∷ [])) ≡ number e ∷ (rest ++ None ∷ None ∷ [])
-  unfolding without names_from
-  parameters_gone e =
-      let front : Blocks = number e ∷ rest in
-      let zero_more : length front ≡ length front + 0 = omega arith in
-      ap (λ bs. slice_set bs (length front + 1) None) (ap (λ n. slice_set (front ++ number x ∷ number y ∷ []) n None) zero_more ∙ set_past front (number x ∷ number y ∷ []) 0 None)
-      ∙ set_past front (None ∷ number y ∷ []) 1 None
-
-  stored : (e z : ℤ) → returns c globals target caller fs (reach_of p2c_add c.functions) calls input output rest x y e z ≡ lands e z
-  unfolding step
-  stored e z = ap (λ bs. next (called e) (with_blocks (called e) (store bs n path (Leaf (Int z))))) (parameters_gone e)
-
-  lands_so : (q' : Bool) → sum_or_error c globals target caller fs (reach_of p2c_add c.functions) calls input output rest x y q' ≡ sum_or_error_lands q'
+  lands_so : (test : Bool) → sum_or_error c globals target (record f { todo = todo }) fs reach' calls input output rest x y test ≡ sum_or_error_lands test
   lands_so true = stored (pos 0) (x +ℤ y)
   lands_so false = stored (pos 203) (pos 0)
 
   -- from the call, C comes to the statement after it: with the sum where it is exact, and else with 0 and the error in the flag
-  pub performs : Ready → Fits x → Fits y → Comes q (Onward calling) (sum_or_error_lands (fits_int (x +ℤ y)))
+  pub performs : Ready q calling into who arguments adder target (number x ∷ number y ∷ []) → Fits x → Fits y → Comes q (Onward calling) (sum_or_error_lands (fits_int (x +ℤ y)))
   performs h fx fy =
       one q calling _
-      (onto q (CStep q calling) _ _ (is_at q (CStep q calling) _ (enters h ∙ entered))
-      (onto q _ _ _ (body_runs c globals target caller fs (reach_of p2c_add c.functions) calls input output rest x y fx fy)
+      (onto q (CStep q calling) _ _ (is_at q (CStep q calling) _ (enters q calling todo into who arguments adder target (number x ∷ number y ∷ []) refl h ∙ begins))
+      (onto q _ _ _ (body_runs c globals target (record f { todo = todo }) fs reach' calls input output rest x y fx fy)
       (is_at q _ _ (lands_so (fits_int (x +ℤ y))))))

@@ -1,6 +1,7 @@
 pub mod Backward
 pub mod Below
 pub mod Blocks
+pub mod Calls
 pub mod CheckedSum
 pub mod Comes
 mod Examples
@@ -11,4 +12,5 @@ pub mod Later
 pub mod Memory
 pub mod Numbers
 pub mod Stays
+pub mod Todo
 pub mod Touched

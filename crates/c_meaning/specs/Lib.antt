@@ -6,6 +6,7 @@ pub mod Entries
 pub mod Evaluate
 pub mod Follows
 pub mod Fresh
+pub mod Kinds
 pub mod Laws
 pub mod Runs
 pub mod StateOf
