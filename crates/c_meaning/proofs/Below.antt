@@ -1,6 +1,6 @@
 -- Evaluation gives no pointer to a block that was not made yet.
-use Rattle.std.proofs.Common.{◌≡◌, ℕ, zero, suc, ◌+◌, ◌<◌, ◌≤◌, List, [], ◌∷◌, ◌++◌, length, Bool, true, false, Option, Some, None, refl, sym, ap, subst, ◌∙◌, arith}
-use Rattle.std.specs.Prelude.{ℤ, pos, negsuc, if◌then◌else◌}
+use Rattle.std.proofs.Common.{◌≡◌, ℕ, zero, suc, ◌<◌, List, [], ◌∷◌, Bool, true, false, Option, Some, None, refl, subst}
+use Rattle.std.specs.Prelude.{ℤ, pos, if◌then◌else◌}
 use Rattle.c_tree.specs.Tree as t
 use Rattle.c_tree.specs.Tree.{ObjectType, Expr}
 use Rattle.c_tree.specs.declared.operators.CUnary.{CUnary}
@@ -10,12 +10,11 @@ use Rattle.c_tree.specs.declared.operators.CBinary.TheVariants as b
 use Rattle.c_tree.specs.declared.operators.CCast.{CCast}
 use Rattle.c_tree.specs.declared.operators.CCast.TheVariants as to
 use Rattle.c_tree.specs.declared.program.CDeclaration.{CDeclaration}
-use Rattle.c_meaning.specs.declared.StuckKind.TheVariants as k
-use Rattle.c_meaning.specs.Cells.{Name, Cell, Empty, Int, Word, Byte, Null, Pointer, Function, Tree, Leaf, Fork, End, Block, Blocks, child, of_part, part}
-use Rattle.c_meaning.specs.Answer.{Answer, Got, Bad, ◌>>=◌, or_bad, when}
-use Rattle.c_meaning.specs.Types.{PlaceType, Plain, Array, Signature, ValueType, Of, AnyPointer, Routine, Step}
-use Rattle.c_meaning.specs.Values.{Value, Typed, int, word, truth, value_of, leaf, int_cell, as_int, exact, on_ints, on_words, divided, ordered, equal, shifted, shift, truth_of, binary, joined, unary, int_of_cell, word_of_cell, byte_of, converted}
-use Rattle.c_meaning.specs.Evaluate.{View, Root, Named, At, Site, member, element, onward, root_block, root_number, read_cell, read_tree, read_as, load, follow_cell, follow, pointer_to, address, retyped, struct_pointer, cast, function_value, name_value, no_variable, variable, read_place, value, place, values}
+use Rattle.c_meaning.specs.Cells.{Name, Cell, Empty, Int, Word, Byte, Null, Pointer, Function, Tree, Leaf, Fork, End, Block, child, of_part, part}
+use Rattle.c_meaning.specs.Answer.{Answer}
+use Rattle.c_meaning.specs.Types.{PlaceType, Plain, Array, Signature, Of, AnyPointer, Routine, Step}
+use Rattle.c_meaning.specs.Values.{Value, Typed, int, word, truth, value_of, leaf, exact, on_ints, on_words, divided, ordered, shifted, shift, truth_of, binary, joined, unary, int_of_cell, word_of_cell}
+use Rattle.c_meaning.specs.Evaluate.{View, Root, Named, At, Site, onward, root_block, root_number, read_cell, read_tree, read_as, load, follow_cell, follow, pointer_to, address, retyped, struct_pointer, cast, function_value, name_value, no_variable, variable, read_place, value, place, values}
 use Rattle.c_meaning.specs.StateOf.{CellBelow, TreeBelow}
 use Rattle.c_meaning.proofs.Gives.{Gives, Ok, Not, bind, bind_given, if_when, if_there}
 
@@ -333,6 +332,7 @@ module _ (n : ℕ) (v : View) (s : Sees n v) where
 
   mutual
     unfolding value
+
     pub value_below : (a : Expr) → Gives (ValueBelow n) (value v a)
     value_below (t.Read at) = read_place_below at _
     value_below (t.Number m) = Ok _ (number_below m)

@@ -1,5 +1,5 @@
 -- Blocks after one of them is changed, and after some are added.
-use Rattle.std.proofs.Common.{◌≡◌, ◌≢◌, ℕ, zero, suc, ◌+◌, ◌<◌, ◌≤◌, List, [], ◌∷◌, ◌++◌, length, Option, Some, None, refl, sym, ap, subst, ◌∙◌, arith, ◌⊎◌, inl, inr}
+use Rattle.std.proofs.Common.{◌≡◌, ◌≢◌, ℕ, zero, suc, ◌<◌, ◌≤◌, List, [], ◌∷◌, ◌++◌, length, Option, Some, None, refl, sym, ap, ◌∙◌, arith, ◌⊎◌, inl, inr}
 use Rattle.std.specs.Prelude.{slice_get, slice_set}
 use Rattle.c_meaning.specs.Cells.{Block, Blocks, joined_option, block_at}
 use Rattle.c_meaning.specs.Changes.{IsNoneOf, Changes}
@@ -91,11 +91,12 @@ one_changed bs n b new h of heap = record {
 } where
   kept : {A : Type 0} (f : Block → A) → f new ≡ f b → (i : ℕ) (b1 b2 : Block) → block_at bs i ≡ Some b1 → block_at (slice_set bs n (Some new)) i ≡ Some b2 → f b2 ≡ f b1
   kept f q i b1 b2 e e' = elim (same_or_not i n) [
-      inl s ↦
+    | inl s ↦
         let one : b1 ≡ b = one_block (block_at bs n) b b1 h (ap (block_at bs) (sym s) ∙ e) in
         let two : b2 ≡ new = one_block (block_at (slice_set bs n (Some new)) n) new b2 (block_set bs n b (Some new) h) (ap (block_at (slice_set bs n (Some new))) (sym s) ∙ e') in
         ap f two ∙ q ∙ ap f (sym one)
-    | inr d ↦ ap f (one_block (block_at bs i) b1 b2 e (sym (block_other bs n i (Some new) d) ∙ e')) ]
+    | inr d ↦ ap f (one_block (block_at bs i) b1 b2 e (sym (block_other bs n i (Some new) d) ∙ e'))
+  ]
 
 -- one block is gone
 pub one_dropped : (bs : Blocks) (n : ℕ) → Changes (n ∷ []) bs (slice_set bs n None)
@@ -108,8 +109,9 @@ one_dropped bs n = record {
 } where
   kept : {A : Type 0} (f : Block → A) → (i : ℕ) (b1 b2 : Block) → block_at bs i ≡ Some b1 → block_at (slice_set bs n None) i ≡ Some b2 → f b2 ≡ f b1
   kept f i b1 b2 e e' = elim (same_or_not i n) [
-      inl s ↦ let no : None ≡ Some b2 = sym (block_dropped bs n) ∙ ap (block_at (slice_set bs n None)) (sym s) ∙ e' in cc
-    | inr d ↦ ap f (one_block (block_at bs i) b1 b2 e (sym (block_other bs n i None d) ∙ e')) ]
+    | inl s ↦ let no : None ≡ Some b2 = sym (block_dropped bs n) ∙ ap (block_at (slice_set bs n None)) (sym s) ∙ e' in cc
+    | inr d ↦ ap f (one_block (block_at bs i) b1 b2 e (sym (block_other bs n i None d) ∙ e'))
+  ]
 
 -- blocks are added
 pub added : (bs new : Blocks) → Changes [] bs (bs ++ new)

@@ -1,5 +1,5 @@
 -- A call: its entry, and the storing of the answer where the function ends.
-use Rattle.std.proofs.Common.{◌≡◌, ℕ, zero, suc, ◌+◌, List, [], ◌∷◌, ◌++◌, length, false, Option, Some, None, refl, sym, ap, ◌∙◌, arith, append_assoc, length-append}
+use Rattle.std.proofs.Common.{◌≡◌, ℕ, ◌+◌, List, [], ◌∷◌, ◌++◌, length, false, Option, Some, None, refl, sym, ap, ◌∙◌, arith, append_assoc, length-append}
 use Rattle.std.specs.Prelude.{slice_set}
 use Rattle.c_tree.specs.Tree as t
 use Rattle.c_tree.specs.Tree.{Expr, Statement}
@@ -7,15 +7,15 @@ use Rattle.c_tree.specs.declared.statement.CCallee.{CCallee}
 use Rattle.c_tree.specs.declared.program.CVariable.{CVariable}
 use Rattle.c_tree.specs.declared.program.CFunction.{CFunction}
 use Rattle.c_tree.specs.declared.program.CProgram.{CProgram}
-use Rattle.c_meaning.specs.Cells.{Name, Block, Blocks}
+use Rattle.c_meaning.specs.Cells.{Name, Blocks}
 use Rattle.c_meaning.specs.Answer.{Got, ◌>>=◌, or_bad}
 use Rattle.c_meaning.specs.Values.{Value}
-use Rattle.c_meaning.specs.Evaluate.{View, values}
+use Rattle.c_meaning.specs.Evaluate.{values}
 use Rattle.c_meaning.specs.Fresh.{fresh_blocks}
 use Rattle.c_meaning.specs.Entries.{number_at_end, with_entry}
 use Rattle.c_meaning.specs.States.{Target, Frame, State, function_of, reach_of, without}
 use Rattle.c_meaning.specs.Steps.{Next, Onward, next, with_blocks, called, target_of, parameter_blocks, names_from, enter, call, answered, leave, leave_to, do_statement, view_of, do_next, CStep}
-use Rattle.c_meaning.proofs.Frames.{Running, frame_here, here, set_past}
+use Rattle.c_meaning.proofs.Frames.{Running, here, set_past}
 
 -- ---- the entry
 

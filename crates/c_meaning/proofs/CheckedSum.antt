@@ -1,6 +1,6 @@
 -- The checked sum performs its operation: an example of a proof about a function of the runtime.
-use Rattle.std.proofs.Common.{◌≡◌, ℕ, ◌+◌, List, [], ◌∷◌, ◌++◌, length, Bool, true, false, Option, Some, None, refl, sym, ap, ◌∙◌, arith}
-use Rattle.std.specs.Prelude.{◌≤ℤ◌, ◌<ℤ◌, codes, ℤ, pos, ◌+ℤ◌, ◌-ℤ◌, int_lt, slice_set}
+use Rattle.std.proofs.Common.{◌≡◌, ℕ, List, [], ◌∷◌, ◌++◌, length, Bool, true, false, Option, Some, None, refl, ◌∙◌, arith}
+use Rattle.std.specs.Prelude.{codes, ℤ, pos, ◌+ℤ◌, ◌-ℤ◌, int_lt}
 use Rattle.std.proofs.lemmas.Int.{ints}
 use Rattle.c_tree.specs.Tree as t
 use Rattle.c_tree.specs.Tree.{Expr, Statement, Body, Then, Empty}
@@ -128,9 +128,9 @@ module _ (c : CProgram) (globals : List CVariable) (target : Target) (g : Frame)
       let fit : fits_int (top -ℤ y) ≡ true = fits_true (top -ℤ y) (record { low = omega (arith, ints, fy.high); high = omega (arith, ints, more) }) in
       by_test (int_lt (top -ℤ y) x) _
       (λ t. does p r input output (old (pos 0)) own refl _ _ (at (pos 0) (raise ∷ nothing ∷ sum ∷ [])) _ (rw fit (rw t refl))
-          (fails (fits_false_high (x +ℤ y) (omega (arith, ints, true_lt (top -ℤ y) x t)))))
+      (fails (fits_false_high (x +ℤ y) (omega (arith, ints, true_lt (top -ℤ y) x t)))))
       (λ t. does p r input output (old (pos 0)) own refl _ _ (at (pos 0) (sum ∷ [])) _ (rw fit (rw t refl))
-          (sums (fits_true (x +ℤ y) (record { low = omega (arith, ints, fx.low, more); high = omega (arith, ints, false_le (top -ℤ y) x t) }))))
+      (sums (fits_true (x +ℤ y) (record { low = omega (arith, ints, fx.low, more); high = omega (arith, ints, false_le (top -ℤ y) x t) }))))
 
   low : Fits x → Fits y → int_lt (pos 0) y ≡ false → Comes p (at (pos 0) (below ∷ sum ∷ [])) (sum_or_error (fits_int (x +ℤ y)))
   unfolding step
@@ -139,9 +139,9 @@ module _ (c : CProgram) (globals : List CVariable) (target : Target) (g : Frame)
       let fit : fits_int (bottom -ℤ y) ≡ true = fits_true (bottom -ℤ y) (record { low = omega (arith, ints, less); high = omega (arith, ints, fy.low) }) in
       by_test (int_lt x (bottom -ℤ y)) _
       (λ t. does p r input output (old (pos 0)) own refl _ _ (at (pos 0) (raise ∷ nothing ∷ sum ∷ [])) _ (rw fit (rw t refl))
-          (fails (fits_false_low (x +ℤ y) (omega (arith, ints, true_lt x (bottom -ℤ y) t)))))
+      (fails (fits_false_low (x +ℤ y) (omega (arith, ints, true_lt x (bottom -ℤ y) t)))))
       (λ t. does p r input output (old (pos 0)) own refl _ _ (at (pos 0) (sum ∷ [])) _ (rw fit (rw t refl))
-          (sums (fits_true (x +ℤ y) (record { low = omega (arith, ints, false_le x (bottom -ℤ y) t); high = omega (arith, ints, fx.high, less) }))))
+      (sums (fits_true (x +ℤ y) (record { low = omega (arith, ints, false_le x (bottom -ℤ y) t); high = omega (arith, ints, fx.high, less) }))))
 
   -- its body, from its first statement to its end
   pub body_runs : Fits x → Fits y → Comes p (at (pos 0) (choice ∷ sum ∷ [])) (sum_or_error (fits_int (x +ℤ y)))

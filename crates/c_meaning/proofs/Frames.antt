@@ -1,5 +1,5 @@
 -- What a running function sees: its own variables, by their places among them, over blocks of which nothing need be known.
-use Rattle.std.proofs.Common.{◌≡◌, ℕ, zero, suc, ◌+◌, List, [], ◌∷◌, ◌++◌, length, Bool, true, false, Option, Some, None, refl, sym, ap, subst, ◌∙◌, arith}
+use Rattle.std.proofs.Common.{◌≡◌, ℕ, suc, ◌+◌, List, [], ◌∷◌, ◌++◌, length, true, false, Option, Some, None, refl, ap, subst, ◌∙◌, arith}
 use Rattle.std.specs.Prelude.{slice_get, slice_set, if◌then◌else◌}
 use Rattle.std.specs.Str.{bytes_eq}
 use Rattle.c_tree.specs.Tree.{ObjectType, Statement}
@@ -8,8 +8,8 @@ use Rattle.c_tree.specs.declared.program.CProgram.{CProgram}
 use Rattle.c_meaning.specs.Cells.{Name, Tree, Block, Blocks, block_at, joined_option, with_part}
 use Rattle.c_meaning.specs.Answer.{Answer, Got, Bad, or_else}
 use Rattle.c_meaning.specs.Evaluate.{View}
-use Rattle.c_meaning.specs.States.{Names, Target, Frame, State, lookup, global_from, number_of, signature_of, numbered, changed, store, store_named, view}
-use Rattle.c_meaning.specs.Steps.{Next, names_from, do_statement, view_of, do_next, CStep}
+use Rattle.c_meaning.specs.States.{Target, Frame, State, lookup, global_from, number_of, signature_of, numbered, changed, store, store_named, view}
+use Rattle.c_meaning.specs.Steps.{names_from, do_statement, view_of, do_next, CStep}
 
 -- a place that many blocks further on
 abbrev pub plus : ℕ → Option ℕ → Option ℕ

@@ -1,5 +1,5 @@
 -- A step only adds to the output and the calls.
-use Rattle.std.proofs.Common.{◌≡◌, ℕ, List, [], ◌∷◌, ◌++◌, Option, Some, None, refl, sym, ap, ◌∙◌, append_assoc}
+use Rattle.std.proofs.Common.{ℕ, List, [], ◌∷◌, ◌++◌, Option, Some, None, refl, sym, ap, ◌∙◌, append_assoc}
 use Rattle.std.proofs.lemmas.List.{append-nil}
 use Rattle.std.specs.Prelude.{ℤ, pos, negsuc}
 use Rattle.c_tree.specs.Tree as t
@@ -8,12 +8,12 @@ use Rattle.c_tree.specs.declared.statement.CCallee.{CCallee}
 use Rattle.c_tree.specs.declared.program.CFunction.{CFunction}
 use Rattle.c_tree.specs.declared.program.CProgram.{CProgram}
 use Rattle.c_meaning.specs.Cells.{Blocks}
-use Rattle.c_meaning.specs.Answer.{Answer, Got, Bad, ◌>>=◌}
+use Rattle.c_meaning.specs.Answer.{Answer, Got, Bad}
 use Rattle.c_meaning.specs.Values.{Value}
 use Rattle.c_meaning.specs.Evaluate.{View}
 use Rattle.c_meaning.specs.Entries.{with_entry}
 use Rattle.c_meaning.specs.States.{Frame, State, Target}
-use Rattle.c_meaning.specs.Steps.{Next, Onward, Ended, Halted, next, to_do, with_blocks, get_char, put_byte, put_char, call, enter, finish, leave_to, leave, leave_with, go_on, do_statement, do_next, CStep}
+use Rattle.c_meaning.specs.Steps.{next, to_do, with_blocks, get_char, put_byte, put_char, call, enter, finish, leave_to, leave, leave_with, go_on, do_statement, do_next, CStep}
 use Rattle.c_meaning.specs.Follows.{Extends}
 use Rattle.c_meaning.specs.Laws.{OnlyAdds, StepAdds}
 use Rattle.c_meaning.proofs.Gives.{Gives, Ok, Not, bind, if_when}

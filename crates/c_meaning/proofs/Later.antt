@@ -4,7 +4,7 @@ use Rattle.std.specs.Prelude.{◌-◌}
 use Rattle.c_tree.specs.declared.program.CProgram.{CProgram}
 use Rattle.c_meaning.specs.States.{State}
 use Rattle.c_meaning.specs.Steps.{Next, Onward, Ended, Halted, CStep}
-use Rattle.c_meaning.specs.Runs.{CAnswer, Going, End, Stuck, start, run_from, answer_of, CRun}
+use Rattle.c_meaning.specs.Runs.{CAnswer, Going, start, run_from, answer_of, CRun}
 use Rattle.c_meaning.specs.Follows.{Extends}
 use Rattle.c_meaning.specs.Laws.{IsFinal, FinalStays, Shows, GoingIsExtended, OnlyAdds}
 use Rattle.c_meaning.proofs.Grows.{same, longer, step_adds}

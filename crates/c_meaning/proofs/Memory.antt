@@ -1,6 +1,6 @@
 -- What a store, a new block and the end of a block do to a good memory.
-use Rattle.std.proofs.Common.{◌≡◌, ℕ, zero, suc, ◌+◌, ◌<◌, ◌≤◌, List, [], ◌∷◌, ◌++◌, length, Bool, true, false, Option, Some, None, refl, sym, ap, subst, ◌∙◌, arith, length-append}
-use Rattle.std.specs.Prelude.{ℤ, pos, negsuc, slice_set, if◌then◌else◌, reverse}
+use Rattle.std.proofs.Common.{◌≡◌, ℕ, zero, suc, ◌≤◌, List, [], ◌∷◌, ◌++◌, length, Bool, true, false, Option, Some, None, refl, sym, ap, subst, ◌∙◌, arith}
+use Rattle.std.specs.Prelude.{slice_set, if◌then◌else◌, reverse}
 use Rattle.std.specs.Str.{bytes_eq}
 use Rattle.c_tree.specs.Tree as t
 use Rattle.c_tree.specs.Tree.{ObjectType}
@@ -11,7 +11,6 @@ use Rattle.c_tree.specs.declared.program.CDeclaration.TheVariants as d
 use Rattle.c_meaning.specs.Cells.{Name, Cell, Empty, Int, Word, Byte, Null, Pointer, Function, Tree, Leaf, Fork, End, Block, Blocks, block_at, joined_option, with_child, with_part}
 use Rattle.c_meaning.specs.Fresh.{object_tree, copies, member_tree, members_tree, struct_tree, fresh, fresh_block, fresh_blocks}
 use Rattle.c_meaning.specs.StateOf.{CellBelow, TreeBelow, BlocksBelow, HasGlobals}
-use Rattle.c_meaning.proofs.Blocks.{length_set, within}
 
 -- ---- more blocks were made
 

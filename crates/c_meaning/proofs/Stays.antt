@@ -1,5 +1,5 @@
 -- A step leads from a state of a program to a state of it.
-use Rattle.std.proofs.Common.{◌≡◌, ℕ, zero, suc, ◌+◌, ◌<◌, ◌≤◌, List, [], ◌∷◌, ◌++◌, length, Bool, true, false, Option, Some, None, refl, sym, ap, subst, ◌∙◌, arith, length-append}
+use Rattle.std.proofs.Common.{◌≡◌, ℕ, suc, ◌+◌, ◌<◌, ◌≤◌, List, [], ◌∷◌, ◌++◌, length, Bool, true, false, Option, Some, None, refl, sym, ap, subst, ◌∙◌, arith, length-append}
 use Rattle.std.specs.Prelude.{ℤ, pos, negsuc, slice_set, if◌then◌else◌}
 use Rattle.std.specs.Str.{bytes_eq}
 use Rattle.c_tree.specs.Tree as t
@@ -9,22 +9,22 @@ use Rattle.c_tree.specs.declared.program.CVariable.{CVariable}
 use Rattle.c_tree.specs.declared.program.CDeclaration.{CDeclaration}
 use Rattle.c_tree.specs.declared.program.CFunction.{CFunction}
 use Rattle.c_tree.specs.declared.program.CProgram.{CProgram}
-use Rattle.c_meaning.specs.Cells.{Name, Cell, Empty, Int, Word, Byte, Null, Pointer, Function, Tree, Leaf, Fork, End, Block, Blocks, block_at, with_part}
-use Rattle.c_meaning.specs.Answer.{Answer, Got, Bad, ◌>>=◌, or_bad, or_else}
-use Rattle.c_meaning.specs.Types.{PlaceType, Plain, Array, Of}
-use Rattle.c_meaning.specs.Values.{Value, Typed, int, value_of, leaf, as_int, byte_of, converted}
-use Rattle.c_meaning.specs.Evaluate.{View, Root, Named, At, Site, root_number, value, place, values}
-use Rattle.c_meaning.specs.Fresh.{fresh, fresh_blocks}
-use Rattle.c_meaning.specs.States.{Names, Target, Nowhere, Into, Frame, State, lookup, global_from, number_of, function_of, numbered, changed, store, store_named, without, view}
-use Rattle.c_meaning.specs.Steps.{Next, Onward, Ended, Halted, next, to_do, with_blocks, taken, put_root, put_value, assign, malloc, free_block, free_cell, free_value, get_char, put_byte, put_char, target_of, parameter_blocks, names_from, call, enter, result_of, returned, answered, finish, leave_to, leave, leave_with, go_on, do_statement, view_of, do_next, CStep}
+use Rattle.c_meaning.specs.Cells.{Name, Cell, Empty, Int, Word, Byte, Null, Pointer, Function, Tree, Block, Blocks, block_at}
+use Rattle.c_meaning.specs.Answer.{Answer, ◌>>=◌, or_else}
+use Rattle.c_meaning.specs.Types.{PlaceType, Plain, Array}
+use Rattle.c_meaning.specs.Values.{Value, Typed, int, byte_of, converted}
+use Rattle.c_meaning.specs.Evaluate.{View, Root, Named, At, Site}
+use Rattle.c_meaning.specs.Fresh.{fresh_blocks}
+use Rattle.c_meaning.specs.States.{Names, Target, Nowhere, Into, Frame, State, lookup, global_from, number_of, numbered, changed, store, store_named, without, view}
+use Rattle.c_meaning.specs.Steps.{to_do, with_blocks, taken, put_root, put_value, assign, malloc, free_block, free_cell, free_value, get_char, put_byte, put_char, target_of, parameter_blocks, names_from, call, enter, result_of, returned, answered, leave_to, leave, leave_with, go_on, do_statement, view_of, do_next, CStep}
 use Rattle.c_meaning.specs.Runs.{start}
 use Rattle.c_meaning.specs.StateOf.{TreeBelow, BlocksBelow, HasGlobals, NamesWithin, TargetBelow, FrameWithin, FramesWithin, IsStateOf}
 use Rattle.c_meaning.specs.Laws.{StartIsState, StateStays}
-use Rattle.c_meaning.proofs.Gives.{Gives, Ok, Not, bind, bind_given, if_when, if_there}
-use Rattle.c_meaning.proofs.Blocks.{length_set, length_append, within}
-use Rattle.c_meaning.proofs.Below.{Sees, ValueBelow, ValuesBelow, SiteBelow, RootBelow, root_number_below, value_of_below, value_below, place_below, values_below}
-use Rattle.c_meaning.proofs.Memory.{tree_more, blocks_more, block_below, part_changed, set_below, drop_below, append_below, globals_count, globals_set, globals_freed, globals_left, globals_append, fresh_below, fresh_blocks_below, fresh_blocks_count, fresh_globals}
-use Rattle.c_meaning.proofs.Touched.{Leads, Goes, Ends, Halts, of_next, finished, onward_has}
+use Rattle.c_meaning.proofs.Gives.{Gives, Ok, Not, bind, bind_given, if_when}
+use Rattle.c_meaning.proofs.Blocks.{length_set, within}
+use Rattle.c_meaning.proofs.Below.{Sees, ValueBelow, ValuesBelow, root_number_below, value_of_below, value_below, place_below, values_below}
+use Rattle.c_meaning.proofs.Memory.{blocks_more, block_below, part_changed, set_below, drop_below, append_below, globals_count, globals_set, globals_freed, globals_left, globals_append, fresh_below, fresh_blocks_below, fresh_blocks_count, fresh_globals}
+use Rattle.c_meaning.proofs.Touched.{Leads, Goes, Halts, of_next, finished, onward_has}
 
 -- a memory with n blocks, of which some may be pointed to
 record Memory (c : CProgram) (made : ℕ) (bs : Blocks) : Type 0 where
@@ -168,8 +168,8 @@ module _ (c : CProgram) (reach : ℕ) (names : Names) (bs : Blocks) (in_range : 
   unfolding malloc
   malloc_whole at of =
       bind _ _ (λ site e. bind_given _ _
-        (put_kept c reach names (suc (length bs)) bs site _ (memory_more c (length bs) (suc (length bs)) bs (omega arith) m) (omega arith))
-        (λ stored h. Ok _ (with_new _ stored (fresh_below (suc (length bs)) false c.declarations of) h)))
+      (put_kept c reach names (suc (length bs)) bs site _ (memory_more c (length bs) (suc (length bs)) bs (omega arith) m) (omega arith))
+      (λ stored h. Ok _ (with_new _ stored (fresh_below (suc (length bs)) false c.declarations of) h)))
 
   freed_kept : (n : ℕ) (path : List ℕ) (o : Option Block) → block_at bs n ≡ o → Gives (Kept c (length bs) (length bs)) (free_block bs n path o)
   unfolding free_block
@@ -287,8 +287,10 @@ entered_state c st rest g target ps h tb p =
       globals = globals_append c.globals st.blocks (ps ++ locals) h.globals;
       cells = blocks_more (length st.blocks) (length all) all more (append_below (length st.blocks) st.blocks (ps ++ locals) h.cells (append_below (length st.blocks) ps locals p.cells (fresh_blocks_below (length st.blocks) false c.declarations g.locals)));
       frame = record { names = names_within (length c.globals) (length st.blocks) (g.parameters ++ g.locals) (length all) low own; target = target_more (length st.blocks) (length all) target more tb };
-      below = (record { names = names_more (length c.globals) (length st.blocks) (length all) st.frame.names more h.frame.names; target = target_more (length st.blocks) (length all) st.frame.target more h.frame.target },
-        frames_more (length c.globals) (length st.blocks) (length all) st.below more h.below);
+      below = (
+        record { names = names_more (length c.globals) (length st.blocks) (length all) st.frame.names more h.frame.names; target = target_more (length st.blocks) (length all) st.frame.target more h.frame.target },
+        frames_more (length c.globals) (length st.blocks) (length all) st.below more h.below,
+      );
     }
 
 call_state : (c : CProgram) (v : View) (st : State) (rest : List Statement) (into : Option t.Place) (who : CCallee) (arguments : List Expr) → Sees (length st.blocks) v → IsStateOf c st → Gives (IsStateOf c) (call c v st rest into who arguments)
@@ -331,7 +333,7 @@ unfolding leave_to
 left_state c st [] answer h fs a = finished st _
 left_state c st (g ∷ below) answer h fs a =
     of_next st _ (with_blocks_state c (length st.blocks) _ _ (record { frame = fs.0; below = fs.1 })
-      (all_whole c (length st.blocks) _ (answered_kept c (length st.blocks) _ st.frame.target answer (without_kept c (length st.blocks) (length st.blocks) (length st.blocks) st.frame.names st.blocks h.frame.names (memory c st h) refl) a)))
+    (all_whole c (length st.blocks) _ (answered_kept c (length st.blocks) _ st.frame.target answer (without_kept c (length st.blocks) (length st.blocks) (length st.blocks) st.frame.names st.blocks h.frame.names (memory c st h) refl) a)))
 
 leave_state : (c : CProgram) (st : State) (answer : Option Value) → IsStateOf c st → AnswerBelow (length st.blocks) answer → Leads (IsStateOf c) (leave c st answer)
 unfolding leave
@@ -362,7 +364,7 @@ unfolding get_char view_of int
 get_char_state c st rest at h =
     let k = to_do_stack c (length st.blocks) st rest (stack c st h) in
     with_blocks_state c (length st.blocks) _ _ (record { frame = k.frame; below = k.below })
-      (all_whole c (length st.blocks) _ (bind _ _ (λ site e. put_kept c st.frame.reach st.frame.names (length st.blocks) st.blocks site _ (memory c st h) tt)))
+    (all_whole c (length st.blocks) _ (bind _ _ (λ site e. put_kept c st.frame.reach st.frame.names (length st.blocks) st.blocks site _ (memory c st h) tt)))
 
 statement_state : (c : CProgram) (st : State) (rest : List Statement) (s : Statement) → IsStateOf c st → Leads (IsStateOf c) (do_statement c (view_of c st) st rest s)
 unfolding do_statement view_of

@@ -1,6 +1,6 @@
 -- A step changes at most the blocks that it names.
-use Rattle.std.proofs.Common.{◌≡◌, ℕ, List, [], ◌∷◌, ◌++◌, Bool, Option, Some, None, refl, sym, ap, subst, ◌∙◌}
-use Rattle.std.specs.Prelude.{ℤ, pos, negsuc, slice_set}
+use Rattle.std.proofs.Common.{◌≡◌, ℕ, List, [], ◌∷◌, ◌++◌, Option, Some, None, refl, sym, ap, subst}
+use Rattle.std.specs.Prelude.{pos, negsuc, slice_set}
 use Rattle.c_tree.specs.Tree as t
 use Rattle.c_tree.specs.Tree.{ObjectType, Expr, Statement}
 use Rattle.c_tree.specs.declared.statement.CCallee.{CCallee}
@@ -8,13 +8,13 @@ use Rattle.c_tree.specs.declared.program.CDeclaration.{CDeclaration}
 use Rattle.c_tree.specs.declared.program.CFunction.{CFunction}
 use Rattle.c_tree.specs.declared.program.CProgram.{CProgram}
 use Rattle.c_meaning.specs.declared.StuckKind.TheVariants as k
-use Rattle.c_meaning.specs.Cells.{Name, Cell, Empty, Int, Word, Byte, Null, Pointer, Function, Tree, Leaf, Fork, End, Block, Blocks, block_at}
+use Rattle.c_meaning.specs.Cells.{Empty, Int, Word, Byte, Null, Pointer, Function, Tree, Leaf, Fork, End, Block, Blocks, block_at}
 use Rattle.c_meaning.specs.Answer.{Answer, Got, Bad, ◌>>=◌, or_bad}
 use Rattle.c_meaning.specs.Values.{Value, Typed, leaf}
-use Rattle.c_meaning.specs.Evaluate.{View, Root, Named, At, Site, root_number, value, place}
+use Rattle.c_meaning.specs.Evaluate.{View, Root, Named, At, Site, root_number, place}
 use Rattle.c_meaning.specs.States.{Names, Target, Nowhere, Into, Frame, State, number_of, changed, store, store_named, without, view}
 use Rattle.c_meaning.specs.Steps.{Next, Onward, Ended, Halted, next, to_do, with_blocks, put_root, put_value, assign, malloc, free_block, free_cell, free_value, get_char, put_byte, put_char, call, enter, answered, finish, leave_to, leave, leave_with, go_on, do_statement, view_of, do_next, CStep}
-use Rattle.c_meaning.specs.Changes.{IsNoneOf, Changes, if_got, block_of, pointed, target_block, blocks_of, touched_at_end, touched_by, touched_next, touched}
+use Rattle.c_meaning.specs.Changes.{Changes, if_got, block_of, pointed, target_block, blocks_of, touched_at_end, touched_by, touched_next, touched}
 use Rattle.c_meaning.specs.Laws.{StepChanges}
 use Rattle.c_meaning.proofs.Gives.{Gives, Ok, Not, bind, bind_given, if_when}
 use Rattle.c_meaning.proofs.Blocks.{unchanged, one_changed, one_dropped, added, then_changes, also, none_left, none_right}

@@ -1,5 +1,5 @@
 -- What the memory of a C program holds: cells, trees of them, and numbered blocks.
-use Rattle.std.specs.Prelude.{ℕ, zero, suc, Bool, List, [], ◌∷◌, Option, Some, None, ℤ, slice_get, slice_set}
+use Rattle.std.specs.Prelude.{ℕ, zero, suc, Bool, List, [], ◌∷◌, Option, Some, None, ℤ, slice_get}
 use Rattle.c_tree.specs.Tree.{ObjectType}
 
 -- the bytes of a name

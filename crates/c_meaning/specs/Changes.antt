@@ -1,9 +1,9 @@
 -- Which blocks a step may change, and what a change may be.
-use Rattle.std.specs.Prelude.{◌≡◌, ◌≢◌, ℕ, ◌<◌, ◌≤◌, List, [], ◌∷◌, ◌++◌, map, length, Option, Some, None, slice_get}
+use Rattle.std.specs.Prelude.{◌≡◌, ◌≢◌, ℕ, ◌<◌, ◌≤◌, List, [], ◌∷◌, ◌++◌, length, Some, None, slice_get}
 use Rattle.c_tree.specs.Tree as t
 use Rattle.c_tree.specs.Tree.{Statement}
 use Rattle.c_tree.specs.declared.program.CProgram.{CProgram}
-use Rattle.c_meaning.specs.Cells.{Cell, Pointer, Tree, Leaf, Block, Blocks, block_at}
+use Rattle.c_meaning.specs.Cells.{Pointer, Leaf, Block, Blocks, block_at}
 use Rattle.c_meaning.specs.Answer.{Answer, Got, Bad, ◌>>=◌}
 use Rattle.c_meaning.specs.Values.{Value, Typed}
 use Rattle.c_meaning.specs.Evaluate.{View, Site, root_number, value, place}

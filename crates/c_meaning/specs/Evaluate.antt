@@ -1,15 +1,14 @@
 -- What places and expressions give, by what a view shows of the state.
-use Rattle.std.specs.Prelude.{ℕ, ◌+◌, Bool, true, false, if◌then◌else◌, List, [], ◌∷◌, ◌++◌, Option, Some, None, ℤ, pos, negsuc, nat_lt}
-use Rattle.std.specs.Str.{bytes_eq}
+use Rattle.std.specs.Prelude.{ℕ, Bool, false, List, [], ◌∷◌, ◌++◌, Option, Some, None, ℤ, pos, negsuc, nat_lt}
 use Rattle.c_tree.specs.Tree as t
 use Rattle.c_tree.specs.Tree.{ObjectType, Expr}
 use Rattle.c_tree.specs.declared.operators.CCast.{CCast}
 use Rattle.c_tree.specs.declared.operators.CCast.TheVariants as to
 use Rattle.c_tree.specs.declared.program.CDeclaration.{CDeclaration}
 use Rattle.c_meaning.specs.declared.StuckKind.TheVariants as k
-use Rattle.c_meaning.specs.Cells.{Name, Cell, Empty, Int, Word, Byte, Null, Pointer, Function, Tree, Leaf, Fork, End, Block, Blocks, part}
+use Rattle.c_meaning.specs.Cells.{Name, Cell, Empty, Null, Pointer, Function, Tree, Leaf, Block, Blocks, part}
 use Rattle.c_meaning.specs.Answer.{Answer, Got, Bad, ◌>>=◌, or_bad, when}
-use Rattle.c_meaning.specs.Types.{PlaceType, Plain, Array, Signature, ValueType, Of, AnyPointer, Routine, Step, members_of, member_from, part_type, type_eq, points_to_object}
+use Rattle.c_meaning.specs.Types.{PlaceType, Plain, Array, Signature, Of, AnyPointer, Routine, Step, members_of, member_from, part_type, type_eq, points_to_object}
 use Rattle.c_meaning.specs.Values.{Value, Typed, int, word, value_of, leaf, as_int, joined, unary, int_of_cell, word_of_cell}
 
 -- where a place begins: at a variable, or in a block that a pointer gave

@@ -4,11 +4,10 @@ use Rattle.std.specs.Str.{bytes_eq}
 use Rattle.c_tree.specs.Tree as t
 use Rattle.c_tree.specs.Tree.{ObjectType}
 use Rattle.c_tree.specs.declared.program.CMember.{CMember}
-use Rattle.c_tree.specs.declared.program.CStruct.{CStruct}
 use Rattle.c_tree.specs.declared.program.CVariable.{CVariable}
 use Rattle.c_tree.specs.declared.program.CDeclaration.{CDeclaration}
 use Rattle.c_tree.specs.declared.program.CDeclaration.TheVariants as d
-use Rattle.c_meaning.specs.Cells.{Name, Cell, Empty, Int, Word, Byte, Null, Tree, Leaf, Fork, End, Block, Blocks}
+use Rattle.c_meaning.specs.Cells.{Name, Empty, Int, Word, Byte, Null, Tree, Leaf, Fork, End, Block, Blocks}
 
 -- the tree of a type, by the trees of the structs
 unfoldable pub object_tree : (zeroed : Bool) → (Name → Tree) → ObjectType → Tree

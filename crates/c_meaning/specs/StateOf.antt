@@ -1,8 +1,8 @@
 -- The states of a program: the globals are the first blocks, and nothing names a block that was not made yet.
-use Rattle.std.specs.Prelude.{◌≡◌, ℕ, ◌<◌, ◌≤◌, false, List, [], ◌∷◌, length, Option, Some, None}
+use Rattle.std.specs.Prelude.{◌≡◌, ℕ, ◌<◌, ◌≤◌, false, List, [], ◌∷◌, length, Some, None}
 use Rattle.c_tree.specs.declared.program.CVariable.{CVariable}
 use Rattle.c_tree.specs.declared.program.CProgram.{CProgram}
-use Rattle.c_meaning.specs.Cells.{Cell, Empty, Int, Word, Byte, Null, Pointer, Function, Tree, Leaf, Fork, End, Block, Blocks}
+use Rattle.c_meaning.specs.Cells.{Cell, Pointer, Tree, Leaf, Fork, End, Blocks}
 use Rattle.c_meaning.specs.States.{Names, Target, Nowhere, Into, Frame, State}
 
 -- n blocks were made, and the cell points to none but these

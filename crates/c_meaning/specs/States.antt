@@ -1,5 +1,5 @@
 -- The state of a C program, and what evaluation sees of it.
-use Rattle.std.specs.Prelude.{ℕ, zero, suc, ◌+◌, Bool, true, false, if◌then◌else◌, List, [], ◌∷◌, ◌++◌, map, take, length, Option, Some, None, slice_set}
+use Rattle.std.specs.Prelude.{ℕ, suc, ◌+◌, if◌then◌else◌, List, [], ◌∷◌, map, take, Option, Some, None, slice_set}
 use Rattle.std.specs.Str.{bytes_eq}
 use Rattle.c_tree.specs.Tree.{ObjectType, Statement}
 use Rattle.c_tree.specs.declared.program.CVariable.{CVariable}
@@ -7,7 +7,7 @@ use Rattle.c_tree.specs.declared.program.CPrototype.{CPrototype}
 use Rattle.c_tree.specs.declared.program.CFunction.{CFunction}
 use Rattle.c_tree.specs.declared.program.CProgram.{CProgram}
 use Rattle.c_meaning.specs.declared.StuckKind.TheVariants as k
-use Rattle.c_meaning.specs.Cells.{Name, Tree, Block, Blocks, joined_option, block_at, with_part}
+use Rattle.c_meaning.specs.Cells.{Name, Tree, Block, Blocks, block_at, with_part}
 use Rattle.c_meaning.specs.Answer.{Answer, Got, Bad, or_else}
 use Rattle.c_meaning.specs.Types.{PlaceType, Signature}
 use Rattle.c_meaning.specs.Evaluate.{View}

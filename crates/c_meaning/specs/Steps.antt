@@ -1,5 +1,5 @@
 -- One step.
-use Rattle.std.specs.Prelude.{ℕ, ◌+◌, Bool, true, false, if◌then◌else◌, List, [], ◌∷◌, ◌++◌, length, Option, Some, None, ℤ, pos, negsuc, nat_lt, slice_set}
+use Rattle.std.specs.Prelude.{ℕ, ◌+◌, true, false, if◌then◌else◌, List, [], ◌∷◌, ◌++◌, length, Option, Some, None, ℤ, pos, negsuc, nat_lt, slice_set}
 use Rattle.c_tree.specs.Tree as t
 use Rattle.c_tree.specs.Tree.{ObjectType, Expr, Statement}
 use Rattle.c_tree.specs.declared.statement.CCallee.{CCallee}
@@ -12,7 +12,7 @@ use Rattle.c_meaning.specs.declared.StuckKind.{StuckKind}
 use Rattle.c_meaning.specs.declared.StuckKind.TheVariants as k
 use Rattle.c_meaning.specs.Cells.{Name, Cell, Null, Pointer, Function, Tree, Leaf, Block, Blocks, block_at}
 use Rattle.c_meaning.specs.Answer.{Answer, Got, Bad, ◌>>=◌, or_bad, when}
-use Rattle.c_meaning.specs.Types.{PlaceType, Plain, Array, ValueType, Of, AnyPointer, Routine, points_to_object}
+use Rattle.c_meaning.specs.Types.{PlaceType, Plain, Array, Of, AnyPointer, Routine, points_to_object}
 use Rattle.c_meaning.specs.Values.{Value, Typed, int, as_int, is_zero, value_of, leaf, converted}
 use Rattle.c_meaning.specs.Evaluate.{View, Root, Named, At, Site, root_number, name_value, value, values, place}
 use Rattle.c_meaning.specs.Fresh.{fresh, fresh_blocks}

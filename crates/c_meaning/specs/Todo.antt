@@ -1,5 +1,5 @@
 -- The statements that a function has still to do.
-use Rattle.std.specs.Prelude.{Bool, true, false, if◌then◌else◌, List, [], ◌∷◌, Option, Some, None}
+use Rattle.std.specs.Prelude.{if◌then◌else◌, List, [], ◌∷◌, Option, Some, None}
 use Rattle.std.specs.Str.{bytes_eq}
 use Rattle.c_tree.specs.Tree as t
 use Rattle.c_tree.specs.Tree.{Statement, Body}

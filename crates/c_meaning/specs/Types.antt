@@ -1,16 +1,12 @@
 -- Types of places and of values, and what the declarations say of them.
-use Rattle.std.specs.Prelude.{ℕ, zero, suc, ◌+◌, Bool, true, false, ◌&&◌, if◌then◌else◌, List, [], ◌∷◌, map, Option, Some, None, nat_lt}
+use Rattle.std.specs.Prelude.{ℕ, zero, suc, ◌+◌, Bool, true, false, ◌&&◌, if◌then◌else◌, List, [], ◌∷◌, Option, Some, None, nat_lt}
 use Rattle.std.specs.Str.{bytes_eq}
 use Rattle.c_tree.specs.Tree as t
 use Rattle.c_tree.specs.Tree.{ObjectType}
 use Rattle.c_tree.specs.declared.program.CMember.{CMember}
-use Rattle.c_tree.specs.declared.program.CStruct.{CStruct}
-use Rattle.c_tree.specs.declared.program.CTypedef.{CTypedef}
-use Rattle.c_tree.specs.declared.program.CVariable.{CVariable}
 use Rattle.c_tree.specs.declared.program.CDeclaration.{CDeclaration}
 use Rattle.c_tree.specs.declared.program.CDeclaration.TheVariants as d
 use Rattle.c_meaning.specs.Cells.{Name}
-use Rattle.c_meaning.specs.Answer.{or_else}
 
 -- the type of a place: only a member is an array
 pub data PlaceType : Type 0 where

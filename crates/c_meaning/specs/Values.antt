@@ -1,5 +1,5 @@
 -- Values and operators.
-use Rattle.std.specs.Prelude.{ℕ, zero, suc, ◌+◌, ◌-◌, ◌*◌, ◌/◌, ◌%◌, ◌^◌, Bool, true, false, not, ◌&&◌, if◌then◌else◌, List, [], ◌∷◌, ℤ, pos, negsuc, ◌+ℤ◌, ◌-ℤ◌, ◌*ℤ◌, neg_ℤ, int_lt, int_le, int_div, int_rem, nat_eq, nat_lt, bit_and, bit_or, bit_xor}
+use Rattle.std.specs.Prelude.{ℕ, zero, ◌-◌, ◌*◌, ◌/◌, ◌%◌, ◌^◌, Bool, true, false, not, ◌&&◌, if◌then◌else◌, List, ℤ, pos, negsuc, ◌+ℤ◌, ◌-ℤ◌, ◌*ℤ◌, neg_ℤ, int_lt, int_le, int_div, int_rem, nat_eq, nat_lt, bit_and, bit_or, bit_xor}
 use Rattle.std.specs.Str.{bytes_eq}
 use Rattle.c_tree.specs.Tree as t
 use Rattle.c_tree.specs.Tree.{ObjectType}
@@ -9,9 +9,9 @@ use Rattle.c_tree.specs.declared.operators.CBinary.{CBinary}
 use Rattle.c_tree.specs.declared.operators.CBinary.TheVariants as b
 use Rattle.c_tree.specs.declared.program.CDeclaration.{CDeclaration}
 use Rattle.c_meaning.specs.declared.StuckKind.TheVariants as k
-use Rattle.c_meaning.specs.Cells.{Name, Cell, Empty, Int, Word, Byte, Null, Pointer, Function, Tree, Leaf, Fork, End}
+use Rattle.c_meaning.specs.Cells.{Cell, Int, Word, Byte, Null, Pointer, Function, Tree, Leaf}
 use Rattle.c_meaning.specs.Answer.{Answer, Got, Bad, ◌>>=◌, when}
-use Rattle.c_meaning.specs.Types.{ValueType, Of, AnyPointer, Routine, alike}
+use Rattle.c_meaning.specs.Types.{ValueType, Of, alike}
 
 -- a scalar, or a whole struct
 pub data Value : Type 0 where

@@ -130,8 +130,8 @@ declarations =
     ∷ d.Struct (record { name = s_t; members = member k t.Int None ∷ member bytes t.Byte (Some 3) ∷ [] })
     ∷ d.Struct (record { name = o_t; members = member x (t.Struct s_t) None ∷ member y (t.Struct s_t) None ∷ member p (t.Pointer (t.Struct o_t)) None ∷ [] })
     ∷ [] where
-  member : Text → ObjectType → Option ℕ → CMember
-  member n of length = record { name = n; of = of; length = length }
+      member : Text → ObjectType → Option ℕ → CMember
+      member n of length = record { name = n; of = of; length = length }
 
 abbrev pub function : Text → Option ObjectType → List CVariable → List CVariable → List Statement → CFunction
 function n result parameters locals body = record { name = n; result = result; parameters = parameters; locals = locals; body = body }
