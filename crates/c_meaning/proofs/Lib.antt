@@ -11,6 +11,7 @@ pub mod Grows
 pub mod Later
 pub mod Memory
 pub mod Numbers
+pub mod Reached
 pub mod Stays
 pub mod Todo
 pub mod Touched

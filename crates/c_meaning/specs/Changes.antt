@@ -28,6 +28,7 @@ pub record Changes (touched : List ℕ) (old new : Blocks) : Type 0 where
 
 -- ---- the blocks that a step names
 
+-- the number, where there is one
 unfoldable pub if_got : Answer ℕ → List ℕ
 if_got (Got n) = n ∷ []
 if_got (Bad kind) = []
@@ -41,10 +42,12 @@ unfoldable pub pointed : Answer Value → List ℕ
 pointed (Got (Typed of (Leaf (Pointer n path)))) = n ∷ []
 pointed _ = []
 
+-- the block for an answer
 unfoldable pub target_block : Target → List ℕ
 target_block Nowhere = []
 target_block (Into n path of) = n ∷ []
 
+-- the blocks of variables
 unfoldable pub blocks_of : Names → List ℕ
 blocks_of [] = []
 blocks_of (n ∷ names) = n.1 ∷ blocks_of names
@@ -62,6 +65,7 @@ touched_by v st (t.Free a) = pointed (value v a)
 touched_by v st (t.Return a) = touched_at_end st
 touched_by v st _ = []
 
+-- the first statement that is still to do, or the fall from the end
 unfoldable pub touched_next : View → State → List Statement → List ℕ
 touched_next v st [] = touched_at_end st
 touched_next v st (s ∷ rest) = touched_by v st s

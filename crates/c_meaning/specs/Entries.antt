@@ -18,10 +18,12 @@ with_digit d (Counted n) = Counted (10 * n + d)
 unfoldable pub with_byte : ℕ → Tail → Tail
 with_byte x tail = if nat_eq x 95 then Begun else (if nat_le 48 x && nat_lt x 58 then with_digit (x - 48) tail else Outside)
 
+-- the number, where digits stand after the last `_`
 unfoldable pub tail_number : Tail → Option ℕ
 tail_number (Counted n) = Some n
 tail_number _ = None
 
+-- the number at the end of a name, from some byte of it on
 unfoldable pub number_after : Tail → List ℕ → Option ℕ
 number_after tail [] = tail_number tail
 number_after tail (x ∷ rest) = number_after (with_byte x tail) rest

@@ -49,15 +49,18 @@ element (pos i) (Array n of) = when (nat_lt i n) k.BadIndex (Got (record { child
 element (negsuc i) (Array n of) = Bad k.BadIndex
 element i (Plain of) = Bad k.Mismatch
 
+-- one step into a place
 unfoldable pub onward : Site → Step → Site
 onward at step = record { root = at.root; path = at.path ++ step.child ∷ []; of = step.of }
 
 -- ---- reading
 
+-- the block in which a place is
 unfoldable pub root_block : View → Root → Answer Block
 root_block v (Named x) = or_bad k.UnknownName (v.named x)
 root_block v (At n) = or_bad k.GoneUse (v.block n)
 
+-- the number of that block
 unfoldable pub root_number : View → Root → Answer ℕ
 root_number v (Named x) = or_bad k.UnknownName (v.number x)
 root_number v (At n) = Got n
@@ -101,6 +104,7 @@ unfoldable pub pointer_to : PlaceType → List ℕ → ℕ → Answer Value
 pointer_to (Plain of) path n = Got (Typed (Of (t.Pointer of)) (Leaf (Pointer n path)))
 pointer_to (Array length of) path n = Bad k.Mismatch
 
+-- `&` and a place
 unfoldable pub address : View → Site → Answer Value
 address v at = root_number v at.root >>= pointer_to at.of at.path
 
@@ -112,6 +116,7 @@ retyped of (Pointer n path) = Got (Typed (Of of) (Leaf (Pointer n path)))
 retyped of Null = Got (Typed (Of of) (Leaf Null))
 retyped of _ = Bad k.Mismatch
 
+-- whether a place is there, and of the type
 unfoldable pub is_plain : ObjectType → Option PlaceType → Bool
 is_plain of (Some (Plain of')) = type_eq of of'
 is_plain of _ = false
@@ -149,6 +154,7 @@ unfoldable pub no_variable : Option Signature → Answer Site
 no_variable (Some s) = Bad k.Mismatch
 no_variable None = Bad k.UnknownName
 
+-- the place that a name names
 unfoldable pub variable : View → Name → Option Block → Answer Site
 variable v x (Some block) = Got (record { root = Named x; path = []; of = Plain block.of })
 variable v x None = no_variable (v.function x)

@@ -27,6 +27,7 @@ unfoldable pub member_tree : Option ℕ → Tree → Tree
 member_tree None a = a
 member_tree (Some n) a = copies n a
 
+-- a struct is the list of its members
 unfoldable pub members_tree : (zeroed : Bool) → (Name → Tree) → List CMember → Tree
 members_tree zeroed structs [] = End
 members_tree zeroed structs (q ∷ rest) = Fork (member_tree q.length (object_tree zeroed structs q.of)) (members_tree zeroed structs rest)

@@ -4,7 +4,7 @@ use Rattle.c_tree.specs.declared.program.CProgram.{CProgram}
 use Rattle.c_meaning.specs.StateOf.{IsStateOf}
 use Rattle.c_meaning.specs.States.{State}
 use Rattle.c_meaning.specs.Steps.{Next, Onward, Ended, Halted, CStep}
-use Rattle.c_meaning.specs.Runs.{CAnswer, Going, End, Stuck, start, CRun}
+use Rattle.c_meaning.specs.Runs.{CAnswer, Going, End, Stuck, start, run_from, CRun}
 use Rattle.c_meaning.specs.Changes.{Changes, touched}
 use Rattle.c_meaning.specs.Follows as p
 use Rattle.c_meaning.specs.Follows.{PascalAnswer, Extends, Follows}
@@ -62,3 +62,7 @@ StartIsState = (c : CProgram) (input : List ℕ) → IsStateOf c (start c input)
 -- and a step leads from such a state to such a state
 abbrev pub StateStays : Type 0
 StateStays = (c : CProgram) (st new : State) → IsStateOf c st → CStep c st ≡ Onward new → IsStateOf c new
+
+-- so every state that a run reaches is one
+abbrev pub ReachedIsState : Type 0
+ReachedIsState = (c : CProgram) (input : List ℕ) (m : ℕ) (st : State) → run_from c m (Onward (start c input)) ≡ Onward st → IsStateOf c st

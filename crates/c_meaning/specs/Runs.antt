@@ -31,6 +31,7 @@ run_from c m (Halted kind output) = Halted kind output
 run_from c zero (Onward st) = Onward st
 run_from c (suc m) (Onward st) = run_from c m (CStep c st)
 
+-- what is told of a point of a run
 unfoldable pub answer_of : Next → CAnswer
 answer_of (Onward st) = Going st.output st.calls
 answer_of (Ended status output calls) = End output status calls

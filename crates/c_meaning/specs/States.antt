@@ -71,6 +71,7 @@ unfoldable pub reach_of : Name → List CFunction → ℕ
 reach_of x [] = 0
 reach_of x (f ∷ rest) = if bytes_eq x f.name then 1 else suc (reach_of x rest)
 
+-- the type of a parameter
 unfoldable pub variable_type : CVariable → ObjectType
 variable_type x = x.of
 
@@ -90,6 +91,7 @@ signature_of c reach x = or_else (announced x c.prototypes) (written x (take rea
 
 -- ---- blocks
 
+-- the block with a number, where there is one
 unfoldable pub numbered : Blocks → Option ℕ → Option Block
 numbered blocks None = None
 numbered blocks (Some n) = block_at blocks n
@@ -99,9 +101,11 @@ unfoldable pub changed : Blocks → ℕ → List ℕ → Tree → Option Block �
 changed blocks n path tree (Some b) = Got (slice_set blocks n (Some (record b { tree = with_part path tree b.tree })))
 changed blocks n path tree None = Bad k.GoneUse
 
+-- the same, of the block with a number
 unfoldable pub store : Blocks → ℕ → List ℕ → Tree → Answer Blocks
 store blocks n path tree = changed blocks n path tree (block_at blocks n)
 
+-- the same, of a variable
 unfoldable pub store_named : Blocks → Option ℕ → List ℕ → Tree → Answer Blocks
 store_named blocks None path tree = Bad k.UnknownName
 store_named blocks (Some n) path tree = store blocks n path tree

@@ -35,6 +35,7 @@ next st (Bad kind) = Halted kind st.output
 unfoldable pub to_do : State → List Statement → State
 to_do st todo = let f = st.frame in record st { frame = record f { todo = todo } }
 
+-- the same state with other blocks, where there are such
 unfoldable pub with_blocks : State → Answer Blocks → Answer State
 with_blocks st blocks = blocks >>= (λ b. Got (record st { blocks = b }))
 
@@ -45,6 +46,7 @@ unfoldable pub taken : List CDeclaration → PlaceType → Value → Answer Tree
 taken ds (Plain of) x = converted ds of x
 taken ds (Array n of) x = Bad k.Mismatch
 
+-- the blocks after a part of a variable, or of a block, has changed
 unfoldable pub put_root : View → Root → List ℕ → Tree → Answer Blocks
 put_root v (Named x) path tree = v.put_named x path tree
 put_root v (At n) path tree = v.put_block n path tree
@@ -71,11 +73,13 @@ free_block blocks n path None = Bad k.GoneUse
 free_block blocks n [] (Some b) = when b.heap k.BadFree (Got (slice_set blocks n None))
 free_block blocks n (i ∷ path) (Some b) = Bad k.BadFree
 
+-- `NULL` is freed without effect
 unfoldable pub free_cell : Blocks → Cell → Answer Blocks
 free_cell blocks Null = Got blocks
 free_cell blocks (Pointer n path) = free_block blocks n path (block_at blocks n)
 free_cell blocks _ = Bad k.Mismatch
 
+-- free(pointer);
 unfoldable pub free_value : Blocks → Value → Answer Blocks
 free_value blocks (Typed of tree) = when (points_to_object of) k.Mismatch (leaf tree >>= free_cell blocks)
 
@@ -86,6 +90,7 @@ unfoldable pub next_byte : List ℕ → ℤ
 next_byte [] = negsuc 0
 next_byte (b ∷ rest) = pos b
 
+-- the input after it
 unfoldable pub after_byte : List ℕ → List ℕ
 after_byte [] = []
 after_byte (b ∷ rest) = rest
@@ -94,6 +99,7 @@ after_byte (b ∷ rest) = rest
 unfoldable pub get_char : View → State → t.Place → Answer State
 get_char v st at = with_blocks (record st { input = after_byte st.input }) (place v at >>= (λ site. put_value v site (int (next_byte st.input))))
 
+-- a number is written, if it is a byte
 unfoldable pub put_byte : State → ℤ → Answer State
 put_byte st (pos n) = when (nat_lt n 256) k.BadByteValue (Got (record st { output = st.output ++ n ∷ [] }))
 put_byte st (negsuc n) = Bad k.BadByteValue
@@ -110,6 +116,7 @@ called_cell (Function f) = Got f
 called_cell Null = Bad k.NullUse
 called_cell _ = Bad k.Mismatch
 
+-- only a function, and a variable of a typedef's type, is called
 unfoldable pub called_value : Value → Answer Name
 called_value (Typed (Routine s) tree) = leaf tree >>= called_cell
 called_value (Typed (Of (t.Named n)) tree) = leaf tree >>= called_cell
@@ -176,11 +183,17 @@ answered ds blocks Nowhere answer = Got blocks
 answered ds blocks (Into n path of) None = Bad k.NoValue
 answered ds blocks (Into n path of) (Some x) = taken ds of x >>= store blocks n path
 
+-- a status is one of 0..209
+unfoldable pub in_status : ℤ → Answer ℕ
+in_status (pos n) = when (nat_lt n 210) k.BadStatus (Got n)
+in_status (negsuc n) = Bad k.BadStatus
+
 -- the status that `main` gives
 unfoldable pub status_of : Option Value → Answer ℕ
 status_of None = Bad k.BadStatus
-status_of (Some x) = as_int x >>= (λ z. elim z [ pos n ↦ when (nat_lt n 210) k.BadStatus (Got n) | negsuc n ↦ Bad k.BadStatus ])
+status_of (Some x) = as_int x >>= in_status
 
+-- the end of the program
 unfoldable pub finish : State → Answer ℕ → Next
 finish st (Got status) = Ended status st.output st.calls
 finish st (Bad kind) = Halted kind st.output
@@ -190,9 +203,11 @@ unfoldable pub leave_to : CProgram → State → List Frame → Option Value →
 leave_to c st [] answer = finish st (status_of answer)
 leave_to c st (g ∷ below) answer = next st (with_blocks (record st { frame = g; below = below }) (answered c.declarations (without st.frame.names st.blocks) st.frame.target answer))
 
+-- the end of the function that runs
 unfoldable pub leave : CProgram → State → Option Value → Next
 leave c st answer = leave_to c st st.below answer
 
+-- the same, where it is known what it gives
 unfoldable pub leave_with : CProgram → State → Answer (Option Value) → Next
 leave_with c st (Got answer) = leave c st answer
 leave_with c st (Bad kind) = Halted kind st.output
@@ -203,6 +218,7 @@ leave_with c st (Bad kind) = Halted kind st.output
 unfoldable pub branch : View → Expr → List Statement → List Statement → Answer (List Statement)
 branch v test taken other = value v test >>= (λ x. as_int x >>= (λ z. Got (if is_zero z then other else taken)))
 
+-- the function goes on with other statements
 unfoldable pub go_on : State → Answer (List Statement) → Next
 go_on st todo = next st (todo >>= (λ rest. Got (to_do st rest)))
 
@@ -225,6 +241,7 @@ do_statement c v st rest (t.Return a) = leave_with c st (returned v st.frame.res
 unfoldable pub view_of : CProgram → State → View
 view_of c st = view c st.frame.reach st.frame.names st.blocks
 
+-- the first statement, or where none is left the fall from the end
 unfoldable pub do_next : CProgram → State → List Statement → Next
 do_next c st [] = leave c st None
 do_next c st (first ∷ rest) = do_statement c (view_of c st) st rest first

@@ -49,6 +49,7 @@ types_eq [] [] = true
 types_eq (a ∷ as') (b ∷ bs) = type_eq a b && types_eq as' bs
 types_eq _ _ = false
 
+-- whether two signatures are one
 unfoldable pub signature_eq : Signature → Signature → Bool
 signature_eq a b = result_eq a.result b.result && types_eq a.parameters b.parameters
 
@@ -92,6 +93,7 @@ unfoldable pub child_type_in : Option (List CMember) → ℕ → Option PlaceTyp
 child_type_in None i = None
 child_type_in (Some members) i = type_at members i
 
+-- the element of an array, or the member of a struct
 unfoldable pub child_type : List CDeclaration → PlaceType → ℕ → Option PlaceType
 child_type ds (Array n of) i = if nat_lt i n then Some (Plain of) else None
 child_type ds (Plain (t.Struct s)) i = child_type_in (members_of s ds) i

@@ -37,10 +37,12 @@ value_of of tree = Typed (Of of) tree
 
 -- ---- what a value is
 
+-- the number in a cell of an `int64_t`
 unfoldable pub int_cell : Cell → Answer ℤ
 int_cell (Int z) = Got z
 int_cell _ = Bad k.Mismatch
 
+-- the number in a cell of a `uint64_t`
 unfoldable pub word_cell : Cell → Answer ℕ
 word_cell (Word n) = Got n
 word_cell _ = Bad k.Mismatch
@@ -58,6 +60,7 @@ as_int (Typed of tree) = leaf tree >>= int_cell
 unfoldable pub as_word : Value → Answer ℕ
 as_word (Typed of tree) = leaf tree >>= word_cell
 
+-- whether a number is 0
 unfoldable pub is_zero : ℤ → Bool
 is_zero (pos zero) = true
 is_zero _ = false
@@ -85,6 +88,7 @@ on_words f x y = as_word x >>= (λ a. as_word y >>= (λ c. Got (word (f a c))))
 unfoldable pub divided : (ℤ → ℤ → ℤ) → ℤ → ℤ → Answer Value
 divided f x y = when (not (is_zero y)) k.ZeroDivide (exact (f x y))
 
+-- a comparison of two `int64_t`
 unfoldable pub ordered : (ℤ → ℤ → Bool) → Value → Value → Answer Value
 ordered f = on_ints (λ x y. Got (truth (f x y)))
 
@@ -118,12 +122,15 @@ shifted f (Word a) y = as_int y >>= shift_count >>= (λ n. Got (word (f a n)))
 shifted f (Int z) y = Bad k.BadShift
 shifted f _ y = Bad k.Mismatch
 
+-- a shift of a value
 unfoldable pub shift : (ℕ → ℕ → ℕ) → Value → Value → Answer Value
 shift f (Typed of tree) y = leaf tree >>= (λ a. shifted f a y)
 
+-- bits that leave the 64 are lost
 unfoldable pub shifted_left : ℕ → ℕ → ℕ
 shifted_left a n = (a * 2 ^ n) % (2 ^ 64)
 
+-- zeros come in
 unfoldable pub shifted_right : ℕ → ℕ → ℕ
 shifted_right a n = a / (2 ^ n)
 
@@ -160,9 +167,11 @@ joined ds op x y = y >>= binary ds op x
 
 -- ---- operators on one value
 
+-- the other bits of 64
 unfoldable pub complement : ℕ → ℕ
 complement n = 2 ^ 64 - 1 - n
 
+-- an operator on a value
 unfoldable pub unary : CUnary → Value → Answer Value
 unary u.Minus x = as_int x >>= (λ z. exact (neg_ℤ z))
 unary u.Not x = as_int x >>= (λ z. Got (truth (is_zero z)))
@@ -179,11 +188,13 @@ to_word (negsuc n) = complement (n % (2 ^ 64))
 unfoldable pub to_int : ℕ → ℤ
 to_int n = if nat_lt n (2 ^ 63) then pos n else negsuc (complement n)
 
+-- a number as an `int64_t`
 unfoldable pub int_of_cell : Cell → Answer Value
 int_of_cell (Int z) = Got (int z)
 int_of_cell (Word n) = Got (int (to_int n))
 int_of_cell _ = Bad k.Mismatch
 
+-- a number as a `uint64_t`
 unfoldable pub word_of_cell : Cell → Answer Value
 word_of_cell (Int z) = Got (word (to_word z))
 word_of_cell (Word n) = Got (word n)

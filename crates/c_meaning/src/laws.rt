@@ -1,6 +1,6 @@
 //! What holds of every run and every step: each statement is the contract of a function that does
 //! nothing, so that a proof elsewhere cites its `ensures`.
-ghost use Rattle.c_meaning.specs.Laws.{FinalStays, GoingIsExtended, FollowsByThree, StepAdds, StepChanges, StartIsState, StateStays};
+ghost use Rattle.c_meaning.specs.Laws.{FinalStays, GoingIsExtended, FollowsByThree, StepAdds, StepChanges, StartIsState, StateStays, ReachedIsState};
 
 /// A run that ended or is stuck stays so.
 pub fn final_answer_stays()
@@ -37,3 +37,9 @@ pub fn start_is_a_state()
 pub fn state_stays_one()
     ensures { StateStays }
 {}
+
+/// Every state that a run reaches is one of its program.
+pub fn reached_is_a_state()
+    ensures { ReachedIsState }
+{
+}

@@ -4,7 +4,7 @@
 //! is one step. `Follows` says how the answers of a Pascal program and of its C belong together.
 //! `Whole.run` and `Whole.step` are the same two under names that unfold every definition: a worked
 //! program is `refl` under `unfolding run`. The laws are the contracts of `laws`; a proof may also
-//! take them as lemmas from `proofs/` (`Later`, `Backward`, `Grows`, `Touched`, `Stays`).
+//! take them as lemmas from `proofs/` (`Later`, `Backward`, `Grows`, `Touched`, `Stays`, `Reached`).
 //!
 //! # How a proof sees a state
 //!
