@@ -261,3 +261,9 @@ word_tested : run (main [] (when (t.WordNumber 1) (stop ∷ []) ∷ stop ∷ [])
     ≡ Stuck k.Mismatch []
 unfolding run
 word_tested = refl
+
+-- a store through a pointer to a freed block
+stored_after_free : run (main (variable e.p (t.Pointer t.Int) ∷ []) (t.Malloc (var e.p) t.Int ∷ t.Free (read e.p) ∷ t.Assign (target e.p) (num 1) ∷ stop ∷ [])) [] 9
+    ≡ Stuck k.GoneUse []
+unfolding run
+stored_after_free = refl

@@ -1,10 +1,12 @@
 -- Small programs without calls, structs and pointers.
-use Rattle.std.proofs.Common.{◌≡◌, [], ◌∷◌, refl}
+use Rattle.std.proofs.Common.{◌≡◌, ℕ, zero, suc, [], ◌∷◌, ◌++◌, refl, ap}
 use Rattle.std.specs.Prelude.{codes}
 use Rattle.c_tree.specs.Tree as t
 use Rattle.c_tree.specs.declared.operators.CBinary.TheVariants as op
 use Rattle.c_meaning.specs.declared.StuckKind.TheVariants as k
-use Rattle.c_meaning.specs.Runs.{Going, End, Stuck}
+use Rattle.c_tree.specs.declared.program.CProgram.{CProgram}
+use Rattle.c_meaning.specs.Steps.{Onward}
+use Rattle.c_meaning.specs.Runs.{Going, End, Stuck, start, run_from, answer_of}
 use Rattle.c_meaning.specs.Whole.{run}
 use Rattle.c_meaning.proofs.Examples.Build as e
 use Rattle.c_meaning.proofs.Examples.Build.{var, read, num, variable, ints, set, put, give, stop, when, loop, main}
@@ -57,11 +59,32 @@ greatest_status : run (main [] (give (num 209) ∷ [])) [] 1
 unfolding run
 greatest_status = refl
 
--- a loop without an end goes on, one step for each test
-goes_on_for_ever : run (main [] (loop (num 1) [] ∷ stop ∷ [])) [] 2000
-    ≡ Going [] []
+-- a loop without an end goes on
+abbrev endless : CProgram
+endless = main [] (loop (num 1) [] ∷ stop ∷ [])
+
+-- each of its steps, the test of the loop, leads to the same state
+endless_steps : (m : ℕ) → run_from endless m (Onward (start endless [])) ≡ Onward (start endless [])
 unfolding run
-goes_on_for_ever = refl
+endless_steps zero = refl
+endless_steps (suc m) = endless_steps m
+
+-- so it goes on after every number of steps
+goes_on_for_ever : (m : ℕ) → run endless [] m ≡ Going [] []
+unfolding run
+goes_on_for_ever m = ap answer_of (endless_steps m)
+
+-- a local that holds nothing is written
+writes_nothing : run (main (ints (e.a ∷ [])) (put (read e.a) ∷ stop ∷ [])) [] 9
+    ≡ Stuck k.Indeterminate []
+unfolding run
+writes_nothing = refl
+
+-- three bytes
+says_hi : run (main [] (put (num 104) ∷ put (num 105) ∷ put (num 10) ∷ stop ∷ [])) [] 4
+    ≡ End (codes "hi" ++ 10 ∷ []) 0 []
+unfolding run
+says_hi = refl
 
 -- a name that is not declared is no fault where it is not reached
 not_taken : run (main [] (when (num 0) (put (read e.b) ∷ []) ∷ stop ∷ [])) [] 2
