@@ -4,17 +4,19 @@ use Rattle.std.specs.Prelude.{slice_set}
 use Rattle.c_tree.specs.Tree as t
 use Rattle.c_tree.specs.Tree.{Expr, Statement}
 use Rattle.c_tree.specs.declared.statement.CCallee.{CCallee}
+use Rattle.c_tree.specs.declared.statement.CCallee.TheVariants as callee
 use Rattle.c_tree.specs.declared.program.CVariable.{CVariable}
 use Rattle.c_tree.specs.declared.program.CFunction.{CFunction}
 use Rattle.c_tree.specs.declared.program.CProgram.{CProgram}
 use Rattle.c_meaning.specs.Cells.{Name, Blocks}
 use Rattle.c_meaning.specs.Answer.{Got, ◌>>=◌, or_bad}
-use Rattle.c_meaning.specs.Values.{Value}
-use Rattle.c_meaning.specs.Evaluate.{values}
+use Rattle.c_meaning.specs.Types.{Signature}
+use Rattle.c_meaning.specs.Values.{Value, leaf}
+use Rattle.c_meaning.specs.Evaluate.{View, function_value, name_value, values}
 use Rattle.c_meaning.specs.Fresh.{fresh_blocks}
 use Rattle.c_meaning.specs.Entries.{number_at_end, with_entry}
 use Rattle.c_meaning.specs.States.{Target, Frame, State, function_of, reach_of, without}
-use Rattle.c_meaning.specs.Steps.{Next, Onward, next, with_blocks, called, target_of, parameter_blocks, names_from, enter, call, answered, leave, leave_to, do_statement, view_of, do_next, CStep}
+use Rattle.c_meaning.specs.Steps.{Next, Onward, next, with_blocks, called_cell, called_value, called, target_of, parameter_blocks, names_from, enter, call, answered, leave, leave_to, do_statement, view_of, do_next, CStep}
 use Rattle.c_meaning.proofs.Frames.{Running, here, set_past}
 
 -- ---- the entry
@@ -28,6 +30,11 @@ pub record Ready (c : CProgram) (st : State) (into : Option t.Place) (who : CCal
   pub values : values (view_of c st) arguments ≡ Got given
   pub text : function_of name c.functions ≡ Some g
   pub fit : parameter_blocks c.declarations g.parameters given ≡ Got parameters
+
+-- a callee that is the name of a function, and of no variable
+pub direct : (v : View) (x : Name) (s : Signature) → v.named x ≡ None → v.function x ≡ Some s → called v (callee.Direct x) ≡ Got x
+unfolding called name_value function_value called_value called_cell leaf ◌>>=◌
+direct v x s h k = rw (h, k) refl
 
 -- the function that a call enters
 abbrev pub running : CProgram → State → List Statement → CFunction → Target → Running

@@ -1,5 +1,6 @@
 pub mod Build
 pub mod Calls
+pub mod Following
 pub mod Jumps
 pub mod Memory
 pub mod Names

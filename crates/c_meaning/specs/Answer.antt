@@ -2,6 +2,7 @@
 use Rattle.std.specs.Prelude.{Bool, true, false, Option, Some, None}
 use Rattle.c_meaning.specs.declared.StuckKind.{StuckKind}
 
+-- an answer, or the kind of being stuck in its place
 pub data Answer (A : Type 0) : Type 0 where
   Got : A → Answer A
   Bad : (kind : StuckKind) → Answer A

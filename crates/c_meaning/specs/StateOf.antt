@@ -10,11 +10,13 @@ abbrev pub CellBelow : ℕ → Cell → Type 0
 CellBelow n (Pointer block path) = block < n
 CellBelow n _ = Unit {0}
 
+-- no cell of the tree does otherwise
 abbrev pub TreeBelow : ℕ → Tree → Type 0
 TreeBelow n (Leaf cell) = CellBelow n cell
 TreeBelow n (Fork a rest) = TreeBelow n a × TreeBelow n rest
 TreeBelow n End = Unit {0}
 
+-- and none of these blocks
 abbrev pub BlocksBelow : ℕ → Blocks → Type 0
 BlocksBelow n [] = Unit {0}
 BlocksBelow n (None ∷ rest) = BlocksBelow n rest
@@ -37,10 +39,12 @@ abbrev pub TargetBelow : ℕ → Target → Type 0
 TargetBelow n Nowhere = Unit {0}
 TargetBelow n (Into block path of) = block < n
 
+-- the variables of a function and the place for its answer are such blocks
 pub record FrameWithin (globals made : ℕ) (f : Frame) : Type 0 where
   pub names : NamesWithin globals made f.names
   pub target : TargetBelow made f.target
 
+-- and those of the functions that wait
 abbrev pub FramesWithin : (globals made : ℕ) → List Frame → Type 0
 FramesWithin globals made [] = Unit {0}
 FramesWithin globals made (f ∷ rest) = FrameWithin globals made f × FramesWithin globals made rest

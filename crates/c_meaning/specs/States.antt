@@ -35,6 +35,7 @@ pub record Frame : Type 0 where
   -- where its answer goes in the frame below
   pub target : Target
 
+-- a point between two steps
 pub record State : Type 0 where
   -- the function that runs, and those that wait for it
   pub frame : Frame

@@ -41,5 +41,4 @@ pub fn state_stays_one()
 /// Every state that a run reaches is one of its program.
 pub fn reached_is_a_state()
     ensures { ReachedIsState }
-{
-}
+{}
