@@ -1,0 +1,5 @@
+//! Which bytes are a text of the C subset, and with which tree.
+#![tactic(auto)]
+
+pub mod fault;
+pub mod token;
