@@ -1,3 +1,6 @@
+pub mod Demands
 pub mod Grammar
 pub mod Spelling
+pub mod Text
 pub mod Token
+pub mod Types
