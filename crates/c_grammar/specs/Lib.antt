@@ -1,5 +1,6 @@
 pub mod Demands
 pub mod Grammar
+pub mod Laws
 pub mod Spelling
 pub mod Text
 pub mod Token

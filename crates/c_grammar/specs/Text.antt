@@ -18,15 +18,17 @@ plain tokens = map (λ (t : Placed). t.token) tokens
 abbrev pub Spells : CProgram → List Token → Type 0
 Spells c tokens = IsProgram c × (program_tokens c ≡ tokens)
 
--- the bytes have this tree by the head lines, the tokens and the grammar alone
-abbrev pub HasTree : List ℕ → List Placed → CProgram → Type 0
-HasTree bytes tokens c = IsTokens bytes tokens × Spells c (plain tokens)
+-- a tree of the subset: of the grammar, and with all further conditions
+pub record IsCTree (c : CProgram) : Type 0 where
+  pub of_grammar : IsProgram c
+  pub conditions : HoldAll (program_demands c)
 
--- The bytes are a text with the tree c, and all further conditions hold.
+-- the bytes are a text with the tree c
 pub record CText (bytes : List ℕ) (c : CProgram) : Type 0 where
   pub tokens : List Placed
-  pub has_tree : HasTree bytes tokens c
-  pub conditions : HoldAll (program_demands c)
+  pub cut : IsTokens bytes tokens
+  pub spelled : program_tokens c ≡ plain tokens
+  pub tree : IsCTree c
 
 -- ---- where the conditions fail
 
@@ -60,7 +62,7 @@ UnexpectedEnd bytes place = (tokens : List Placed) × IsTokens bytes tokens × (
 
 -- a condition of this kind fails at this place of the bytes
 abbrev pub DemandFails : CTextKind → List ℕ → ℕ → Type 0
-DemandFails kind bytes place = (tokens : List Placed) × (c : CProgram) × HasTree bytes tokens c
+DemandFails kind bytes place = (tokens : List Placed) × (c : CProgram) × IsTokens bytes tokens × Spells c (plain tokens)
     × (n : ℕ) × (d : Demand) × Contains (program_demands c) (n, d) × (kind_of d ≡ kind) × (Holds d → ⊥)
     × (t : Placed) × (slice_get tokens n ≡ Some t) × (place ≡ t.place)
 
