@@ -1,1 +1,4 @@
+pub mod Cutting
+mod Examples
+pub mod Longest
 pub mod Unique
