@@ -1,4 +1,5 @@
 pub mod Cutting
+pub mod Deciding
 mod Examples
 pub mod Longest
 pub mod Unique
