@@ -3,5 +3,8 @@ pub mod Deciding
 mod Examples
 pub mod Longest
 pub mod Reading
+pub mod ReadingStatement
 pub mod ReadsExpr
+pub mod ReadsList
+pub mod ReadsStatement
 pub mod Unique

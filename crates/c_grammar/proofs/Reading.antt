@@ -1,14 +1,12 @@
--- The way back from tokens to types, expressions and statements. It skips what it need not look at: that the tokens are spelled is known where it is used.
+-- The way back from tokens to types and expressions. It skips what it need not look at: that the tokens are spelled is known where it is used.
 use Rattle.std.proofs.Common.{◌≡◌, ℕ, zero, suc, ◌+◌, Bool, true, false, not, List, [], ◌∷◌, Option, Some, None}
-use Rattle.c_tree.specs.Tree.{ObjectType, Int, Word, Byte, Struct, Named, VoidPointer, Pointer, Expr, Read, Number, WordNumber, Null, Address, Unary, Binary, Cast, Place, Variable, Pointee, Member, Index, Statement, Assign, Call, Malloc, Free, GetChar, PutChar, If, IfElse, While, Goto, Label, Return, Body, Empty, Then}
+use Rattle.c_tree.specs.Tree.{ObjectType, Int, Word, Byte, Struct, Named, VoidPointer, Pointer, Expr, Read, Number, WordNumber, Null, Address, Unary, Binary, Cast, Place, Variable, Pointee, Member, Index}
 use Rattle.c_tree.specs.declared.operators.CUnary.{CUnary}
 use Rattle.c_tree.specs.declared.operators.CUnary.TheVariants.{Minus, Not, Complement}
 use Rattle.c_tree.specs.declared.operators.CBinary.{CBinary}
 use Rattle.c_tree.specs.declared.operators.CBinary.TheVariants.{Add, Subtract, Multiply, Divide, Remainder, Equal, NotEqual, Less, AtMost, Greater, AtLeast, And, Or, BitAnd, BitOr, BitXor, ShiftLeft, ShiftRight}
 use Rattle.c_tree.specs.declared.operators.CCast.{CCast}
 use Rattle.c_tree.specs.declared.operators.CCast.TheVariants as cast
-use Rattle.c_tree.specs.declared.statement.CCallee.{CCallee}
-use Rattle.c_tree.specs.declared.statement.CCallee.TheVariants.{Direct, Indirect}
 use Rattle.c_grammar.specs.declared.token.Word.{Word as QuotedWord}
 use Rattle.c_grammar.specs.declared.token.Word.TheVariants as word
 use Rattle.c_grammar.specs.declared.token.Mark.{Mark}
@@ -74,10 +72,14 @@ is_void _ = false
 abbrev pub cons_with : {A : Type 0} → Reader (List A) → A × List Token → List A × List Token
 cons_with more a = let o = more a.1 in (a.0 ∷ o.0, o.1)
 
+abbrev pub many_by : {A : Type 0} → Reader (List A) → Reader A → Bool → Reader (List A)
+many_by more r true ts = ([], ts)
+many_by more r false ts = cons_with more (r ts)
+
 -- items until a test passes, at most so many
 unfoldable pub many : {A : Type 0} → (List Token → Bool) → Reader A → ℕ → Reader (List A)
 many stop r zero ts = ([], ts)
-many stop r (suc g) ts = elim (stop ts) [ true ↦ ([], ts) | false ↦ cons_with (many stop r g) (r ts) ]
+many stop r (suc g) ts = many_by (many stop r g) r (stop ts) ts
 
 abbrev pub no_comma : List Token → Bool
 no_comma ts = not (at_mark is_comma ts)
@@ -116,8 +118,12 @@ void_alone ts = elim (at_word is_void ts) [ true ↦ not (at_mark is_star (tail 
 abbrev pub some_with : {A : Type 0} → A × List Token → Option A × List Token
 some_with a = (Some a.0, a.1)
 
+abbrev pub result_by : Bool → Reader (Option ObjectType)
+result_by true ts = (None, tail ts)
+result_by false ts = some_with (read_type ts)
+
 abbrev pub read_result : Reader (Option ObjectType)
-read_result ts = elim (void_alone ts) [ true ↦ (None, tail ts) | false ↦ some_with (read_type ts) ]
+read_result ts = result_by (void_alone ts) ts
 
 abbrev pub cast_by_word : QuotedWord → Reader CCast
 cast_by_word word.Int64Type ts = (cast.Int, ts)
