@@ -3,8 +3,10 @@ pub mod Deciding
 mod Examples
 pub mod Longest
 pub mod Reading
+pub mod ReadingProgram
 pub mod ReadingStatement
 pub mod ReadsExpr
 pub mod ReadsList
+pub mod ReadsProgram
 pub mod ReadsStatement
 pub mod Unique
