@@ -10,3 +10,4 @@ pub mod ReadsList
 pub mod ReadsProgram
 pub mod ReadsStatement
 pub mod Unique
+pub mod UniqueTree
