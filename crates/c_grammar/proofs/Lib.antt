@@ -1,6 +1,8 @@
 pub mod Cutting
 pub mod Deciding
 mod Examples
+mod FaultExamples
+mod TextExamples
 pub mod Longest
 pub mod Reading
 pub mod ReadingProgram
@@ -11,3 +13,4 @@ pub mod ReadsProgram
 pub mod ReadsStatement
 pub mod Unique
 pub mod UniqueTree
+pub mod Worked

@@ -37,27 +37,27 @@ spelled c =
 
 -- ---- the parts by their kinds
 
-abbrev forwards_in : List Part → List (List ℕ)
+abbrev pub forwards_in : List Part → List (List ℕ)
 forwards_in [] = []
 forwards_in (Forward n ∷ more) = n ∷ forwards_in more
 forwards_in (p ∷ more) = forwards_in more
 
-abbrev declarations_in : List Part → List CDeclaration
+abbrev pub declarations_in : List Part → List CDeclaration
 declarations_in [] = []
 declarations_in (Declaration d ∷ more) = d ∷ declarations_in more
 declarations_in (p ∷ more) = declarations_in more
 
-abbrev globals_in : List Part → List CVariable
+abbrev pub globals_in : List Part → List CVariable
 globals_in [] = []
 globals_in (Global v ∷ more) = v ∷ globals_in more
 globals_in (p ∷ more) = globals_in more
 
-abbrev prototypes_in : List Part → List CPrototype
+abbrev pub prototypes_in : List Part → List CPrototype
 prototypes_in [] = []
 prototypes_in (Prototype p ∷ more) = p ∷ prototypes_in more
 prototypes_in (p ∷ more) = prototypes_in more
 
-abbrev functions_in : List Part → List CFunction
+abbrev pub functions_in : List Part → List CFunction
 functions_in [] = []
 functions_in (Function f ∷ more) = f ∷ functions_in more
 functions_in (p ∷ more) = functions_in more
@@ -115,7 +115,7 @@ module _ (c : CProgram) where
 
 -- ---- the laws
 
-abbrev program_of : List Part × CMain → CProgram
+abbrev pub program_of : List Part × CMain → CProgram
 program_of p = record {
   forwards = forwards_in p.0; declarations = declarations_in p.0; globals = globals_in p.0;
   prototypes = prototypes_in p.0; functions = functions_in p.0; main = p.1
