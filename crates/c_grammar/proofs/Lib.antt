@@ -3,6 +3,7 @@ pub mod Deciding
 mod Examples
 mod FaultExamples
 mod TextExamples
+pub mod Hold
 pub mod Longest
 pub mod Reading
 pub mod ReadingProgram
@@ -11,6 +12,7 @@ pub mod ReadsExpr
 pub mod ReadsList
 pub mod ReadsProgram
 pub mod ReadsStatement
+pub mod Spelled
 pub mod Unique
 pub mod UniqueTree
 pub mod Worked
