@@ -13,6 +13,7 @@ pub mod ReadsList
 pub mod ReadsProgram
 pub mod ReadsStatement
 pub mod Spelled
+pub mod Stand
 pub mod Unique
 pub mod UniqueTree
 pub mod Worked

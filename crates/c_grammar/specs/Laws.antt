@@ -1,8 +1,10 @@
 -- Laws of the definitions.
-use Rattle.std.specs.Prelude.{◌≡◌, ℕ, List}
+use Rattle.std.specs.Prelude.{◌≡◌, ℕ, List, Option, Some, slice_get}
+use Rattle.std.specs.List.{AllByRecursion}
 use Rattle.c_tree.specs.declared.program.CProgram.{CProgram}
-use Rattle.c_grammar.specs.Token.{Placed, IsTokens}
+use Rattle.c_grammar.specs.Token.{Token, Identifier, Numeral, Placed, IsTokens}
 use Rattle.c_grammar.specs.Spelling.{program_tokens}
+use Rattle.c_grammar.specs.Demands.{Demand, Level, Leads, Differs, Declared, Length, Cells, program_demands}
 use Rattle.c_grammar.specs.Text.{CText}
 
 -- bytes have at most one list of tokens
@@ -16,3 +18,20 @@ TreesAreUnique = (c d : CProgram) → program_tokens c ≡ program_tokens d → 
 -- bytes have at most one tree
 abbrev pub TextsAreUnique : Type 0
 TextsAreUnique = (bytes : List ℕ) (c d : CProgram) → CText bytes c → CText bytes d → c ≡ d
+
+-- the token of which a demand speaks
+abbrev pub Speaks : Demand → Token → Type 0
+Speaks (Level n) t = Unit {0}
+Speaks (Leads label labels) t = t ≡ Identifier label
+Speaks (Differs name others) t = t ≡ Identifier name
+Speaks (Declared name above) t = t ≡ Identifier name
+Speaks (Length n) t = t ≡ Numeral n
+Speaks (Cells n) t = Unit {0}
+
+-- a demand stands at a token of which it speaks
+abbrev pub Stands : List Token → ℕ × Demand → Type 0
+Stands tokens d = (t : Token) × (slice_get tokens d.0 ≡ Some t) × Speaks d.1 t
+
+-- the demands of a tree stand at tokens of it
+abbrev pub DemandsStand : Type 0
+DemandsStand = (c : CProgram) → AllByRecursion (Stands (program_tokens c)) (program_demands c)
