@@ -14,6 +14,7 @@ pub mod ReadsProgram
 pub mod ReadsStatement
 pub mod Spelled
 pub mod Stand
+pub mod StandStatement
 pub mod Unique
 pub mod UniqueTree
 pub mod Worked

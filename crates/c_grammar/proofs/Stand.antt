@@ -1,18 +1,12 @@
--- The demands of types, expressions and statements stand at the tokens of which they speak.
+-- Demands stand at the tokens of which they speak: parts in a row, and lists.
 use Rattle.std.proofs.Common.{◌≡◌, ℕ, zero, suc, ◌+◌, ◌≤◌, List, [], ◌∷◌, ◌++◌, length, Option, Some, None, refl, sym, ◌∙◌, ap, arith}
 use Rattle.std.specs.Prelude.{slice_get, map}
 use Rattle.std.specs.List.{AllByRecursion}
-use Rattle.c_tree.specs.Tree.{ObjectType, Int, Word, Byte, Struct, Named, VoidPointer, Pointer, Expr, Read, Number, WordNumber, Null, Address, Unary, Binary, Cast, Place, Variable, Pointee, Member, Index, Statement, Assign, Call, Malloc, Free, GetChar, PutChar, If, IfElse, While, Goto, Label, Return, Body, Empty, Then}
-use Rattle.c_tree.specs.declared.operators.CCast.{CCast}
-use Rattle.c_tree.specs.declared.operators.CCast.TheVariants as cast
-use Rattle.c_tree.specs.declared.statement.CCallee.{CCallee}
-use Rattle.c_tree.specs.declared.statement.CCallee.TheVariants.{Direct, Indirect}
 use Rattle.c_grammar.specs.Token.{Token, Identifier}
-use Rattle.c_grammar.specs.Types.{Known}
-use Rattle.c_grammar.specs.Spelling.{Spelling, count, spell_all, spell_next, spell_listed, spell_type, spell_result, spell_cast, spell_expr, spell_place, spell_into, spell_callee, spell_value, spell_statement, spell_body}
-use Rattle.c_grammar.specs.Demands.{Names, Demand, Demands, after, all_demands, listed_demands, same, pointed_demands, type_demands, result_demands, cast_demands, expr_demands, place_demands, into_demands, callee_demands, value_demands, own_labels, labels_in, labels_of, statement_demands, body_demands}
+use Rattle.c_grammar.specs.Spelling.{Spelling, count, spell_all, spell_next, spell_listed}
+use Rattle.c_grammar.specs.Demands.{Demand, Demands, after, all_demands, listed_demands}
 use Rattle.c_grammar.specs.Laws.{Stands}
-use Rattle.c_grammar.proofs.Spelled.{Follow, count_more, next_follow, type_follow, cast_follow, expr_follow, place_follow, into_follow, callee_follow, statement_follow, body_follow}
+use Rattle.c_grammar.proofs.Spelled.{Follow, count_more, next_follow}
 
 abbrev pub Stand : List Token → Demands → Type 0
 Stand tokens all = AllByRecursion (Stands tokens) all
@@ -51,7 +45,6 @@ pub stand_both : (tokens : List Token) (a b : Demands) → Stand tokens a → St
 stand_both tokens [] b s t = t
 stand_both tokens (d ∷ a) b s t = (s.0, stand_both tokens a b s.1 t)
 
--- the first token is there
 module _ {S A : Type 0} (spell : Spelling A) (follow : Follow spell) (step : S → A → S) (demands : S → A → Demands) where
   abbrev pub EachStands : Type 0
   EachStands = (s : S) (a : A) (rest : List Token) → Stand (spell a rest) (demands s a)
