@@ -1,5 +1,5 @@
 -- A function that cuts bytes into tokens, for worked examples, and that it cuts as the definition says.
-use Rattle.std.proofs.Common.{◌≡◌, ◌≢◌, ℕ, zero, suc, ◌+◌, Bool, true, false, IsTrue, List, [], ◌∷◌, ◌++◌, length, Option, Some, None, refl, sym, ◌∙◌, ap, subst, arith}
+use Rattle.std.proofs.Common.{◌≡◌, ℕ, zero, suc, ◌+◌, Bool, true, false, List, [], ◌∷◌, ◌++◌, length, Option, Some, None, refl, sym, ap, subst, arith}
 use Rattle.std.specs.Prelude.{◌==◌}
 use Rattle.std.specs.List.{list_all}
 use Rattle.std.specs.Str.Parse.{digits_value}
@@ -27,7 +27,7 @@ span_is test [] = record { whole = refl; pass = refl; stops = tt }
 span_is test (b ∷ more) = by (test b) refl (span test more) (span_is test more)
   where
     by : (x : Bool) → test b ≡ x → (s : Span) → IsSpan test more s
-      → IsSpan test (b ∷ more) (elim x [ true ↦ record s { front = b ∷ s.front } | false ↦ record { front = []; after = b ∷ more } ])
+        → IsSpan test (b ∷ more) (elim x [ true ↦ record s { front = b ∷ s.front } | false ↦ record { front = []; after = b ∷ more } ])
     by true e s i = record { whole = ap (λ l. b ∷ l) i.whole; pass = rw e i.pass; stops = i.stops }
     by false e s i = record { whole = refl; pass = refl; stops = e }
 
@@ -97,7 +97,7 @@ unfoldable pub after_token : (n : ℕ) (bytes : List ℕ) (p : Piece bytes) → 
 after_token n bytes p None = None
 after_token n bytes p (Some c) = Some (record {
   tokens = placed p.token n ∷ c.tokens;
-  cut = subst (λ x. Cut n x (placed p.token n ∷ c.tokens) []) (sym p.whole) (token n p.front p.after p.token c.tokens [] p.longest c.cut)
+  cut = subst (λ x. Cut n x (placed p.token n ∷ c.tokens) []) (sym p.whole) (token n p.front p.after p.token c.tokens [] p.longest c.cut);
 })
 
 -- the tokens of the bytes, in at most so many pieces

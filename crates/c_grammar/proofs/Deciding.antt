@@ -1,5 +1,5 @@
 -- Whether a demand holds, as a test; for worked examples.
-use Rattle.std.proofs.Common.{◌≡◌, ◌≢◌, ℕ, ◌+◌, ◌≤◌, Bool, true, false, ◌&&◌, not, IsTrue, List, [], ◌∷◌, Option, Some, None, refl, sym, ◌∙◌, ap, arith}
+use Rattle.std.proofs.Common.{◌≡◌, ℕ, Bool, true, false, ◌&&◌, not, List, [], ◌∷◌, refl, arith}
 use Rattle.std.specs.Prelude.{nat_le, cond}
 use Rattle.c_grammar.specs.declared.fault.CTextKind.{CTextKind}
 use Rattle.c_grammar.specs.Demands.{Demand, Level, Leads, Differs, Declared, Length, Cells, Demands, Holds, HoldAll, among, kind_of}

@@ -1,14 +1,13 @@
 -- Worked examples: one whole text with its tree, and faults.
-use Rattle.std.proofs.Common.{◌≡◌, ℕ, ◌+◌, ◌^◌, ◌<◌, List, [], ◌∷◌, ◌++◌, length, Option, Some, None, refl, sym, ap, inl, inr, lit<, arith}
+use Rattle.std.proofs.Common.{◌≡◌, ℕ, ◌<◌, List, [], ◌∷◌, ◌++◌, length, Some, None, refl, sym, ap, inl, inr, lit<, arith}
 use Rattle.std.specs.Prelude.{codes, slice_index}
 use Rattle.c_tree.specs.Tree.{Null, Number, PutChar, While, Goto, Label, Return, Empty, Then}
 use Rattle.c_tree.specs.declared.program.CProgram.{CProgram}
 use Rattle.c_grammar.specs.declared.fault.CTextKind.TheVariants.{BadByte, BadGoto, NoMain}
-use Rattle.c_grammar.specs.Token.{Token, Identifier, placed, form, form_by, nothing, head_lines}
-use Rattle.c_grammar.specs.Spelling.{program_tokens}
+use Rattle.c_grammar.specs.Token.{Identifier, placed, form, form_by, nothing, head_lines}
 use Rattle.c_grammar.specs.Grammar.{IsName, IsProgram}
 use Rattle.c_grammar.specs.Demands.{Leads, program_demands}
-use Rattle.c_grammar.specs.Text.{CText, IsCTree, Faults, plain}
+use Rattle.c_grammar.specs.Text.{CText, IsCTree, Faults}
 use Rattle.c_grammar.proofs.Worked.{placed_of, are_tokens}
 use Rattle.c_grammar.proofs.Deciding.{none_failing}
 
@@ -17,8 +16,12 @@ body = codes "int main(void) { putchar(INT64_C(104)); return INT64_C(0); }"
 
 abbrev tree : CProgram
 tree = record {
-  forwards = []; declarations = []; globals = []; prototypes = []; functions = [];
-  main = record { locals = []; body = PutChar (Number 104) ∷ Return (Some (Number 0)) ∷ [] }
+  forwards = [];
+  declarations = [];
+  globals = [];
+  prototypes = [];
+  functions = [];
+  main = record { locals = []; body = PutChar (Number 104) ∷ Return (Some (Number 0)) ∷ [] };
 }
 
 is_tree : IsCTree tree
@@ -64,8 +67,12 @@ into_a_loop = codes "int main(void) { goto a; while (NULL) { a: ; } }"
 
 abbrev loop_tree : CProgram
 loop_tree = record {
-  forwards = []; declarations = []; globals = []; prototypes = []; functions = [];
-  main = record { locals = []; body = Goto (codes "a") ∷ While Null (Then (Label (codes "a")) Empty) ∷ [] }
+  forwards = [];
+  declarations = [];
+  globals = [];
+  prototypes = [];
+  functions = [];
+  main = record { locals = []; body = Goto (codes "a") ∷ While Null (Then (Label (codes "a")) Empty) ∷ [] };
 }
 
 name_a : IsName (codes "a")
@@ -77,4 +84,4 @@ loop_is = (tt, tt, tt, tt, tt, (tt, (name_a, ((tt, (name_a, tt)), tt))))
 
 bad_goto : Faults (head_lines ++ into_a_loop) BadGoto 93
 unfolding placed_of
-bad_goto = (placed_of into_a_loop, loop_tree, are_tokens into_a_loop _ _ refl, (loop_is, refl), 7, Leads (codes "a") [], (1, lit< tt, refl), refl, (λ h. cc), placed (Identifier (codes "a")) 93, refl, refl)
+bad_goto = (placed_of into_a_loop, loop_tree, are_tokens into_a_loop _ _ refl, record { of_grammar = loop_is; spelled = refl }, 7, Leads (codes "a") [], (1, lit< tt, refl), refl, (λ h. cc), placed (Identifier (codes "a")) 93, refl, refl)

@@ -1,6 +1,6 @@
 -- Demands of parts in a row.
-use Rattle.std.proofs.Common.{◌≡◌, ℕ, ◌+◌, List, [], ◌∷◌, ◌++◌}
-use Rattle.c_grammar.specs.Demands.{Demand, Demands, Holds, HoldAll, after, in_row}
+use Rattle.std.proofs.Common.{ℕ, [], ◌∷◌, ◌++◌}
+use Rattle.c_grammar.specs.Demands.{Demands, HoldAll, after}
 
 pub hold_after : (n : ℕ) (all : Demands) → HoldAll all → HoldAll (after n all)
 hold_after n [] h = tt

@@ -2,6 +2,7 @@ pub mod Cutting
 pub mod Deciding
 mod Examples
 mod FaultExamples
+mod NestingExamples
 mod TextExamples
 pub mod Hold
 pub mod Longest
@@ -13,7 +14,9 @@ pub mod ReadsList
 pub mod ReadsProgram
 pub mod ReadsStatement
 pub mod Spelled
+pub mod SpelledProgram
 pub mod Stand
+pub mod StandProgram
 pub mod StandStatement
 pub mod Unique
 pub mod UniqueTree

@@ -1,11 +1,11 @@
 -- Which front of the bytes is the longest token, by the byte after it.
-use Rattle.std.proofs.Common.{◌≡◌, ◌≢◌, ℕ, ◌+◌, ◌≤◌, Bool, true, false, ◌&&◌, List, [], ◌∷◌, ◌++◌, length, Option, Some, None, refl, sym, ◌∙◌, ap, arith}
-use Rattle.std.specs.Prelude.{◌==◌, nat_le, cond}
+use Rattle.std.proofs.Common.{◌≡◌, ◌≢◌, ℕ, Bool, true, false, ◌&&◌, List, [], ◌∷◌, ◌++◌, length, Some, None, refl, sym, ◌∙◌, ap, arith}
+use Rattle.std.specs.Prelude.{◌==◌, nat_le}
 use Rattle.std.specs.List.{list_all, find}
 use Rattle.std.specs.Str.{bytes_eq}
 use Rattle.std.specs.Str.Parse.{digits_value}
 use Rattle.c_grammar.specs.declared.token.Mark.{Mark}
-use Rattle.c_grammar.specs.Token.{Token, Numeral, Sign, form, form_by, named, signed, quoted_word, quoted_mark, mark_bytes, marks, is_letter, is_digit, is_name_byte, IsLongest}
+use Rattle.c_grammar.specs.Token.{Numeral, Sign, form, form_by, named, signed, quoted_word, quoted_mark, mark_bytes, marks, is_letter, is_digit, is_name_byte, IsLongest}
 
 -- no byte that passes stands first
 abbrev pub Stops : (ℕ → Bool) → List ℕ → Type 0
@@ -32,7 +32,7 @@ pub word_longest : (b : ℕ) (front after : List ℕ) → is_letter b ≡ true �
 unfolding form_by
 word_longest b front after l a s = record {
   is = rw l (rw a refl);
-  no_longer = λ more rest e n. rw l (rw (stopped is_name_byte front after more rest s e n) refl)
+  no_longer = λ more rest e n. rw l (rw (stopped is_name_byte front after more rest s e n) refl);
 }
 
 pub zero_longest : (after : List ℕ) → IsLongest (48 ∷ []) after (Numeral 0)
@@ -48,7 +48,7 @@ pub number_longest : (b : ℕ) (front after : List ℕ) → is_letter b ≡ fals
 unfolding form_by
 number_longest b front after l z d a s = record {
   is = rw l (rw z (rw d (rw a refl)));
-  no_longer = λ more rest e n. rw l (rw z (rw d (rw (stopped is_digit front after more rest s e n) refl)))
+  no_longer = λ more rest e n. rw l (rw z (rw d (rw (stopped is_digit front after more rest s e n) refl)));
 }
 
 -- ---- marks

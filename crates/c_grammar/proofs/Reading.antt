@@ -1,5 +1,5 @@
 -- The way back from tokens to types and expressions. It skips what it need not look at: that the tokens are spelled is known where it is used.
-use Rattle.std.proofs.Common.{◌≡◌, ℕ, zero, suc, ◌+◌, Bool, true, false, not, List, [], ◌∷◌, Option, Some, None}
+use Rattle.std.proofs.Common.{ℕ, zero, suc, Bool, true, false, not, List, [], ◌∷◌, Option, Some, None}
 use Rattle.c_tree.specs.Tree.{ObjectType, Int, Word, Byte, Struct, Named, VoidPointer, Pointer, Expr, Read, Number, WordNumber, Null, Address, Unary, Binary, Cast, Place, Variable, Pointee, Member, Index}
 use Rattle.c_tree.specs.declared.operators.CUnary.{CUnary}
 use Rattle.c_tree.specs.declared.operators.CUnary.TheVariants.{Minus, Not, Complement}
@@ -242,9 +242,10 @@ selector (Quoted w ∷ rest) = none
 unfoldable pub selectors : Reader Expr → ℕ → Place → Reader Place
 selectors x zero p ts = (p, ts)
 selectors x (suc g) p ts = elim (selector ts) [
-    dot ↦ selectors x g (Member p (name_at (tail ts))) (tail2 ts)
+  | dot ↦ selectors x g (Member p (name_at (tail ts))) (tail2 ts)
   | bracket ↦ (let a = x (tail ts) in selectors x g (Index p a.0) (tail a.1))
-  | none ↦ (p, ts) ]
+  | none ↦ (p, ts)
+]
 
 abbrev pub pointee_with : Reader Expr → ℕ → Expr × List Token → Place × List Token
 pointee_with x g a = selectors x g (Pointee a.0) (tail a.1)

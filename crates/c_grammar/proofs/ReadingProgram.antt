@@ -1,10 +1,8 @@
 -- The way back from tokens to the parts of a program.
-use Rattle.std.proofs.Common.{◌≡◌, ℕ, zero, suc, ◌+◌, Bool, true, false, not, List, [], ◌∷◌, Option, Some, None}
-use Rattle.c_tree.specs.Tree.{ObjectType, Int, Statement, Body, list_of, body_of}
+use Rattle.std.proofs.Common.{ℕ, Bool, true, false, not, List, [], ◌∷◌, Option, Some, None}
+use Rattle.c_tree.specs.Tree.{ObjectType, Int, Statement, Body, list_of}
 use Rattle.c_tree.specs.declared.program.CVariable.{CVariable}
 use Rattle.c_tree.specs.declared.program.CMember.{CMember}
-use Rattle.c_tree.specs.declared.program.CStruct.{CStruct}
-use Rattle.c_tree.specs.declared.program.CTypedef.{CTypedef}
 use Rattle.c_tree.specs.declared.program.CDeclaration.{CDeclaration}
 use Rattle.c_tree.specs.declared.program.CDeclaration.TheVariants as declared
 use Rattle.c_tree.specs.declared.program.CPrototype.{CPrototype}

@@ -1,5 +1,5 @@
 -- An expression is read back from the tokens that it spells.
-use Rattle.std.proofs.Common.{◌≡◌, ℕ, zero, suc, ◌+◌, ◌-◌, ◌≤◌, Bool, true, false, List, [], ◌∷◌, Option, Some, None, refl, sym, ◌∙◌, ap, subst, arith}
+use Rattle.std.proofs.Common.{◌≡◌, ℕ, zero, suc, ◌+◌, ◌-◌, ◌≤◌, false, List, ◌∷◌, refl, ◌∙◌, ap, arith}
 use Rattle.c_tree.specs.Tree.{ObjectType, Int, Word, Byte, Struct, Named, VoidPointer, Pointer, Expr, Read, Number, WordNumber, Null, Address, Unary, Binary, Cast, Place, Variable, Pointee, Member, Index}
 use Rattle.c_tree.specs.declared.operators.CUnary.{CUnary}
 use Rattle.c_tree.specs.declared.operators.CUnary.TheVariants.{Minus, Not, Complement}
@@ -8,9 +8,9 @@ use Rattle.c_tree.specs.declared.operators.CBinary.TheVariants.{Add, Subtract, M
 use Rattle.c_tree.specs.declared.operators.CCast.{CCast}
 use Rattle.c_tree.specs.declared.operators.CCast.TheVariants as cast
 use Rattle.c_grammar.specs.declared.token.Mark.TheVariants as mark
-use Rattle.c_grammar.specs.Token.{Token, Identifier, Numeral, Quoted, Sign}
-use Rattle.c_grammar.specs.Spelling.{spell_type, spell_result, spell_cast, spell_expr, spell_place, unary_mark, binary_mark}
-use Rattle.c_grammar.proofs.Reading.{Reader, tail, tail2, stars, read_type, void_alone, read_result, some_with, read_cast, Shape, of_place, of_unary, of_cast, of_binary, shape, first_shape, second_shape, operator_of, selector, none, selectors, pointee_with, read_place, read_with, address_with, unary_with, cast_to, cast_with, binary_of, binary_with, expr_by, read_expr}
+use Rattle.c_grammar.specs.Token.{Token, Identifier, Sign}
+use Rattle.c_grammar.specs.Spelling.{spell_type, spell_cast, spell_expr, spell_place, unary_mark, binary_mark}
+use Rattle.c_grammar.proofs.Reading.{Reader, tail, stars, read_type, void_alone, read_cast, of_place, of_unary, of_cast, of_binary, shape, first_shape, second_shape, operator_of, selector, none, selectors, pointee_with, read_place, read_with, address_with, unary_with, cast_to, cast_with, binary_of, binary_with, expr_by, read_expr}
 
 -- ---- types
 
@@ -188,6 +188,7 @@ selectors_needed (Index p a) = omega (arith, selectors_needed p)
 
 mutual
   unfolding read_expr selectors
+
   pub expr_read : (e : Expr) (g n : ℕ) (rest : List Token) → expr_need e ≤ g → expr_need e ≤ n → Stops rest → read_expr g n (spell_expr e rest) ≡ (e, rest)
   expr_read e g zero rest a b s = absurd (some_needed e b)
   expr_read (Read p) g (suc n) rest a b s =
@@ -212,7 +213,7 @@ mutual
 
   -- with h more selectors to come at most
   place_read : (p : Place) (g n f h : ℕ) (rest : List Token) → f ≡ selector_count p + h → place_need p ≤ g → place_need p ≤ n
-    → read_place (read_expr g n) f (spell_place p rest) ≡ selectors (read_expr g n) h p rest
+      → read_place (read_expr g n) f (spell_place p rest) ≡ selectors (read_expr g n) h p rest
   place_read (Variable v) g n f h rest e a b = ap (λ k. selectors (read_expr g n) k (Variable v) rest) (omega arith)
   place_read (Pointee x) g n f h rest e a b =
       ap (pointee_with (read_expr g n) f) (expr_read x g n (Sign mark.Close ∷ rest) a b refl)

@@ -18,7 +18,7 @@ module _ {A : Type 0} (spell : Spelling A) (r : Reader A) (stop : List Token →
   follow_all (a ∷ more) rest items f = items.0.follows (spell_all spell more rest)
 
   pub many_read : (all : List A) (g : ℕ) (rest : List Token) → AllByRecursion (Item spell r stop Follow) all → length all ≤ g → Follow rest → stop rest ≡ true
-    → many stop r g (spell_all spell all rest) ≡ (all, rest)
+      → many stop r g (spell_all spell all rest) ≡ (all, rest)
   unfolding many
   many_read [] zero rest items h f s = refl
   many_read [] (suc g) rest items h f s = ap (λ b. many_by (many stop r g) r b rest) s
@@ -52,7 +52,7 @@ module _ {A : Type 0} (spell : Spelling A) (r : Reader A) (Follow : List Token �
       (record { read = λ rest f. each a rest (omega arith) f; goes_on = λ rest. refl; follows = λ rest. commas (spell a rest) }, after_commas each commas more (omega arith))
 
   pub listed_read : Each → Commas → (a : A) (more : List A) (rest : List Token) → list_need need (a ∷ more) ≤ g → Follow rest → no_comma rest ≡ true
-    → listed r g (spell_listed spell (a ∷ more) rest) ≡ (a ∷ more, rest)
+      → listed r g (spell_listed spell (a ∷ more) rest) ≡ (a ∷ more, rest)
   listed_read each commas a more rest h f s =
       let items = after_commas each commas more (omega arith) in
       let next = spell_next spell in let from : Reader A = λ ts. r (tail ts) in

@@ -1,8 +1,7 @@
 -- A program is read back from the tokens that it spells.
-use Rattle.std.proofs.Common.{◌≡◌, ℕ, zero, suc, ◌+◌, ◌≤◌, Bool, true, false, not, List, [], ◌∷◌, ◌++◌, length, Option, Some, None, refl, sym, ◌∙◌, ap, arith}
-use Rattle.std.specs.Prelude.{map}
+use Rattle.std.proofs.Common.{◌≡◌, ℕ, ◌+◌, ◌≤◌, true, false, not, List, [], ◌∷◌, length, Option, Some, None, refl, ◌∙◌, ap, arith}
 use Rattle.std.specs.List.{AllByRecursion}
-use Rattle.c_tree.specs.Tree.{ObjectType, Int, Word, Byte, Struct, Named, VoidPointer, Pointer, Expr, Place, Variable, Pointee, Member, Index, Statement, Assign, Call, Malloc, Free, GetChar, PutChar, If, IfElse, While, Goto, Label, Return, Body, Empty, Then, list_of, body_of, list_of-body_of}
+use Rattle.c_tree.specs.Tree.{ObjectType, Int, Word, Byte, Struct, Named, VoidPointer, Pointer, Place, Variable, Pointee, Member, Index, Statement, Assign, Call, Malloc, Free, GetChar, PutChar, If, IfElse, While, Goto, Label, Return, Body, Empty, Then, body_of, list_of-body_of}
 use Rattle.c_tree.specs.declared.statement.CCallee.{CCallee}
 use Rattle.c_tree.specs.declared.statement.CCallee.TheVariants.{Direct, Indirect}
 use Rattle.c_tree.specs.declared.program.CVariable.{CVariable}
@@ -11,16 +10,13 @@ use Rattle.c_tree.specs.declared.program.CStruct.{CStruct}
 use Rattle.c_tree.specs.declared.program.CTypedef.{CTypedef}
 use Rattle.c_tree.specs.declared.program.CDeclaration.{CDeclaration}
 use Rattle.c_tree.specs.declared.program.CDeclaration.TheVariants as declared
-use Rattle.c_tree.specs.declared.program.CPrototype.{CPrototype}
-use Rattle.c_tree.specs.declared.program.CFunction.{CFunction}
 use Rattle.c_tree.specs.declared.program.CMain.{CMain}
 use Rattle.c_grammar.specs.declared.token.Word.TheVariants as word
 use Rattle.c_grammar.specs.declared.token.Mark.TheVariants as mark
-use Rattle.c_grammar.specs.Token.{Token, Identifier, Numeral, Quoted, Sign}
-use Rattle.c_grammar.specs.Spelling.{Spelling, spell_all, spell_or_void, spell_type, spell_result, spell_place, spell_callee, spell_statement, spell_body, spell_variable, spell_variable_line, spell_length, spell_member, spell_parameters, spell_block, spell_function, spell_prototype, spell_main}
-use Rattle.c_grammar.proofs.Reading.{Reader, tail, at_mark, is_star, many, listed, stars, void_alone, read_type, result_by, some_with, read_result}
-use Rattle.c_grammar.proofs.ReadingStatement.{is_semicolon, read_body, read_statement}
-use Rattle.c_grammar.proofs.ReadingProgram.{Part, Forward, Declaration, Global, Prototype, Function, spell_part, is_open_bracket, at_brace, at_int, variable_with, read_variable, line_with, read_line, member_by, member_with, read_member, or_void_by, or_void, goes_on_as_type, no_local, Block, block_of, block_with, read_block, PartKind, others, struct_kind, part_kind, struct_with, typedef_of, typedef_with, function_with, heading_by, heading_with, other_by, other_with, part_by, read_part, main_with, parts_with, read_program}
+use Rattle.c_grammar.specs.Token.{Token, Identifier, Quoted, Sign}
+use Rattle.c_grammar.specs.Spelling.{spell_all, spell_or_void, spell_type, spell_result, spell_place, spell_callee, spell_statement, spell_body, spell_variable, spell_variable_line, spell_length, spell_member, spell_parameters, spell_block, spell_main}
+use Rattle.c_grammar.proofs.Reading.{tail, at_mark, is_star, stars, read_type, result_by, some_with, read_result}
+use Rattle.c_grammar.proofs.ReadingProgram.{Part, Forward, Declaration, Global, Prototype, Function, spell_part, is_open_bracket, at_brace, at_int, variable_with, read_variable, line_with, read_line, member_by, member_with, read_member, or_void_by, or_void, goes_on_as_type, no_local, Block, block_of, block_with, read_block, others, struct_kind, part_kind, struct_with, typedef_of, typedef_with, function_with, heading_with, other_with, part_by, read_part, main_with, parts_with, read_program}
 use Rattle.c_grammar.proofs.ReadsExpr.{type_read, no_void}
 use Rattle.c_grammar.proofs.ReadsList.{Item, many_read, list_need, length_needed, listed_read}
 use Rattle.c_grammar.proofs.ReadsStatement.{body_need, body_read}
@@ -46,7 +42,7 @@ line_read : (v : CVariable) (rest : List Token) → read_line (spell_variable_li
 line_read v rest = ap line_with (variable_read v (Sign mark.Semicolon ∷ rest))
 
 length_read : (of : ObjectType) (n : List ℕ) (l : Option ℕ) (rest : List Token)
-  → member_by of n (at_mark is_open_bracket (spell_length l (Sign mark.Semicolon ∷ rest))) (spell_length l (Sign mark.Semicolon ∷ rest)) ≡ (record { name = n; of = of; length = l }, rest)
+    → member_by of n (at_mark is_open_bracket (spell_length l (Sign mark.Semicolon ∷ rest))) (spell_length l (Sign mark.Semicolon ∷ rest)) ≡ (record { name = n; of = of; length = l }, rest)
 length_read of n None rest = refl
 length_read of n (Some l) rest = refl
 
@@ -163,7 +159,7 @@ abbrev pub block_need : List CVariable → List Statement → ℕ
 block_need locals body = length locals + body_need (body_of body)
 
 block_read : (g : ℕ) (locals : List CVariable) (body : List Statement) (rest : List Token) → block_need locals body ≤ g
-  → read_block g (tail (spell_block locals body rest)) ≡ (record { locals = locals; body = body }, rest)
+    → read_block g (tail (spell_block locals body rest)) ≡ (record { locals = locals; body = body }, rest)
 block_read g locals body rest h =
     let b = body_of body in
     ap (block_with g) (many_read spell_variable_line read_line no_local Anything locals g (spell_body b (Sign mark.CloseBrace ∷ rest)) (lines_items locals) (omega arith) tt (body_local b rest))
@@ -197,7 +193,7 @@ global_read g v rest =
 
 -- up to the parenthesis that closes the parameters
 heading_read : (g : ℕ) (returned : Option ObjectType) (n : List ℕ) (all : List CVariable) (rest : List Token) → list_need nothing_needed all ≤ g
-  → read_part g (spell_result returned (Identifier n ∷ spell_parameters all rest)) ≡ heading_with g returned n (all, Sign mark.Close ∷ rest)
+    → read_part g (spell_result returned (Identifier n ∷ spell_parameters all rest)) ≡ heading_with g returned n (all, Sign mark.Close ∷ rest)
 heading_read g returned n all rest h =
     let after = spell_parameters all rest in
     ap (λ k. part_by g k (spell_result returned (Identifier n ∷ after))) (result_other returned n after)
@@ -214,7 +210,7 @@ part_read g (Function f) rest h =
     heading_read g f.result f.name f.parameters (spell_block f.locals f.body rest) (omega arith)
     ∙ ap (function_with f.result f.name f.parameters) (block_read g f.locals f.body rest (omega arith))
 
-part_int : (p : Part) (rest : List Token) → at_int (spell_part p rest) ≡ false
+pub part_int : (p : Part) (rest : List Token) → at_int (spell_part p rest) ≡ false
 part_int (Forward n) rest = refl
 part_int (Declaration (declared.Typedef t)) rest = refl
 part_int (Declaration (declared.Struct s)) rest = refl

@@ -1,14 +1,14 @@
 -- A statement is read back from the tokens that it spells.
-use Rattle.std.proofs.Common.{◌≡◌, ℕ, zero, suc, ◌+◌, ◌≤◌, Bool, true, false, List, [], ◌∷◌, Option, Some, None, refl, sym, ◌∙◌, ap, arith}
-use Rattle.c_tree.specs.Tree.{ObjectType, Expr, Read, Number, WordNumber, Null, Address, Unary, Binary, Cast, Place, Variable, Pointee, Member, Index, Statement, Assign, Call, Malloc, Free, GetChar, PutChar, If, IfElse, While, Goto, Label, Return, Body, Empty, Then}
+use Rattle.std.proofs.Common.{◌≡◌, ℕ, zero, suc, ◌+◌, ◌≤◌, false, List, [], ◌∷◌, Option, Some, None, refl, ◌∙◌, ap, arith}
+use Rattle.c_tree.specs.Tree.{Expr, Read, Number, WordNumber, Null, Address, Unary, Binary, Cast, Place, Variable, Pointee, Member, Index, Statement, Assign, Call, Malloc, Free, GetChar, PutChar, If, IfElse, While, Goto, Label, Return, Body, Empty, Then}
 use Rattle.c_tree.specs.declared.statement.CCallee.{CCallee}
 use Rattle.c_tree.specs.declared.statement.CCallee.TheVariants.{Direct, Indirect}
 use Rattle.c_grammar.specs.declared.token.Word.TheVariants as word
 use Rattle.c_grammar.specs.declared.token.Mark.TheVariants as mark
-use Rattle.c_grammar.specs.Token.{Token, Identifier, Numeral, Quoted, Sign}
-use Rattle.c_grammar.specs.Spelling.{spell_type, spell_expr, spell_place, spell_listed, spell_callee, spell_into, spell_value, spell_statement, spell_body}
-use Rattle.c_grammar.proofs.Reading.{Reader, tail, tail2, at_mark, at_word, stars, read_type, read_place, read_expr}
-use Rattle.c_grammar.proofs.ReadingStatement.{is_open, is_close, is_semicolon, is_close_brace, is_else, Kind, kind, places, next, source, from_value, place_callee, expr_callee, arguments_by, arguments, call_with, malloc_with, value_by, value_with, assigned, after_place, place_with, free_with, put_with, return_with, return_by, while_of, while_with, else_of, if_by, if_of, if_with, statement_by, then_of, body_with, body_by, read_body, read_statement}
+use Rattle.c_grammar.specs.Token.{Token, Quoted, Sign}
+use Rattle.c_grammar.specs.Spelling.{spell_type, spell_expr, spell_place, spell_listed, spell_callee, spell_value, spell_statement, spell_body}
+use Rattle.c_grammar.proofs.Reading.{Reader, at_mark, at_word, stars, read_expr}
+use Rattle.c_grammar.proofs.ReadingStatement.{is_close, is_semicolon, is_close_brace, is_else, kind, places, next, source, from_value, place_callee, arguments_by, arguments, call_with, malloc_with, value_with, assigned, after_place, place_with, free_with, put_with, return_with, return_by, while_of, while_with, else_of, if_by, if_of, if_with, statement_by, then_of, body_with, body_by, read_body, read_statement}
 use Rattle.c_grammar.proofs.ReadsExpr.{Stops, type_read, expr_need, place_need, expr_read, place_whole}
 use Rattle.c_grammar.proofs.ReadsList.{list_need, listed_read}
 
@@ -176,17 +176,17 @@ callee_needed (Indirect a) = omega arith
 
 -- after a place with which the statement begins
 begin_place : (g : ℕ) (body : Reader Body) (p : Place) (rest : List Token) → place_need p ≤ g → Stops rest
-  → statement_by (read_expr g g) g body (kind (spell_place p rest)) (spell_place p rest) ≡ after_place (read_expr g g) g p (next rest) rest
+    → statement_by (read_expr g g) g body (kind (spell_place p rest)) (spell_place p rest) ≡ after_place (read_expr g g) g p (next rest) rest
 begin_place g body p rest h s =
     ap (λ k. statement_by (read_expr g g) g body k (spell_place p rest)) (place_kind p rest)
     ∙ ap (place_with (read_expr g g) g) (place_whole p g g rest h h s)
 
 call_read : (g : ℕ) (into : Option Place) (c : CCallee) (all : List Expr) (rest : List Token) → list_need expr_need all ≤ g
-  → call_with (read_expr g g) g into c (arguments (read_expr g g) g (spell_listed spell_expr all (Sign mark.Close ∷ Sign mark.Semicolon ∷ rest))) ≡ (Call into c all, rest)
+    → call_with (read_expr g g) g into c (arguments (read_expr g g) g (spell_listed spell_expr all (Sign mark.Close ∷ Sign mark.Semicolon ∷ rest))) ≡ (Call into c all, rest)
 call_read g into c all rest h = ap (call_with (read_expr g g) g into c) (arguments_read all g (Sign mark.Semicolon ∷ rest) h)
 
 plain_call : (g : ℕ) (body : Reader Body) (c : CCallee) (all : List Expr) (rest : List Token) → callee_need c ≤ g → list_need expr_need all ≤ g
-  → statement_by (read_expr g g) g body (kind (spell_statement (Call None c all) rest)) (spell_statement (Call None c all) rest) ≡ (Call None c all, rest)
+    → statement_by (read_expr g g) g body (kind (spell_statement (Call None c all) rest)) (spell_statement (Call None c all) rest) ≡ (Call None c all, rest)
 plain_call g body c all rest h k =
     let after = Sign mark.Open ∷ spell_listed spell_expr all (Sign mark.Close ∷ Sign mark.Semicolon ∷ rest) in
     ap (λ ts. statement_by (read_expr g g) g body (kind ts) ts) (callee_spelled c after)
@@ -196,14 +196,14 @@ plain_call g body c all rest h k =
 
 -- a value that is no call
 value_read : (g : ℕ) (p : Place) (a : Expr) (rest : List Token) → expr_need a ≤ g
-  → assigned (read_expr g g) g p (source (spell_expr a (Sign mark.Semicolon ∷ rest))) (spell_expr a (Sign mark.Semicolon ∷ rest)) ≡ (Assign p a, rest)
+    → assigned (read_expr g g) g p (source (spell_expr a (Sign mark.Semicolon ∷ rest))) (spell_expr a (Sign mark.Semicolon ∷ rest)) ≡ (Assign p a, rest)
 value_read g p a rest h =
     ap (λ k. assigned (read_expr g g) g p k (spell_expr a (Sign mark.Semicolon ∷ rest))) (expr_source a _)
     ∙ ap (value_with (read_expr g g) g p) (expr_read a g g (Sign mark.Semicolon ∷ rest) h h refl)
 
 -- a call with a place for its answer
 answer_read : (g : ℕ) (p : Place) (c : CCallee) (all : List Expr) (rest : List Token) → callee_need c ≤ g → list_need expr_need all ≤ g
-  → let value = spell_callee c (Sign mark.Open ∷ spell_listed spell_expr all (Sign mark.Close ∷ Sign mark.Semicolon ∷ rest)) in
+    → let value = spell_callee c (Sign mark.Open ∷ spell_listed spell_expr all (Sign mark.Close ∷ Sign mark.Semicolon ∷ rest)) in
     assigned (read_expr g g) g p (source value) value ≡ (Call (Some p) c all, rest)
 answer_read g p c all rest h k =
     let after = Sign mark.Open ∷ spell_listed spell_expr all (Sign mark.Close ∷ Sign mark.Semicolon ∷ rest) in
@@ -215,7 +215,7 @@ answer_read g p c all rest h k =
     ∙ ap (λ d. (Call (Some p) d all, rest)) (callee_is c)
 
 return_read : (g : ℕ) (a : Option Expr) (rest : List Token) → value_need a ≤ g
-  → return_by (read_expr g g) g (at_mark is_semicolon (spell_value a (Sign mark.Semicolon ∷ rest))) (spell_value a (Sign mark.Semicolon ∷ rest)) ≡ (Return a, rest)
+    → return_by (read_expr g g) g (at_mark is_semicolon (spell_value a (Sign mark.Semicolon ∷ rest))) (spell_value a (Sign mark.Semicolon ∷ rest)) ≡ (Return a, rest)
 return_read g None rest h = refl
 return_read g (Some a) rest h =
     ap (λ b. return_by (read_expr g g) g b (spell_expr a (Sign mark.Semicolon ∷ rest))) (expr_semicolon a _)
@@ -223,8 +223,9 @@ return_read g (Some a) rest h =
 
 mutual
   unfolding read_statement read_body stars
+
   pub statement_read : (s : Statement) (g n : ℕ) (rest : List Token) → statement_need s ≤ g → statement_need s ≤ n → at_word is_else rest ≡ false
-    → read_statement g n (spell_statement s rest) ≡ (s, rest)
+      → read_statement g n (spell_statement s rest) ≡ (s, rest)
   statement_read s g zero rest h k f = absurd (some_needed s k)
   statement_read (Assign p a) g (suc n) rest h k f =
       begin_place g (read_body (read_statement g n) g) p (Sign mark.Assign ∷ spell_expr a (Sign mark.Semicolon ∷ rest)) (omega arith) refl ∙ value_read g p a rest (omega arith)
@@ -234,7 +235,7 @@ mutual
       ∙ answer_read g p c all rest (omega arith) (omega arith)
   statement_read (Malloc p of) g (suc n) rest h k f =
       begin_place g (read_body (read_statement g n) g) p (Sign mark.Assign ∷ Quoted word.Malloc ∷ Sign mark.Open ∷ Quoted word.SizeOf ∷ Sign mark.Open
-        ∷ spell_type of (Sign mark.Close ∷ Sign mark.Close ∷ Sign mark.Semicolon ∷ rest)) (omega arith) refl
+      ∷ spell_type of (Sign mark.Close ∷ Sign mark.Close ∷ Sign mark.Semicolon ∷ rest)) (omega arith) refl
       ∙ ap (malloc_with (read_expr g g) g p) (type_read of (Sign mark.Close ∷ Sign mark.Close ∷ Sign mark.Semicolon ∷ rest))
   statement_read (Free a) g (suc n) rest h k f = ap (free_with (read_expr g g) g) (expr_read a g g (Sign mark.Close ∷ Sign mark.Semicolon ∷ rest) (omega arith) (omega arith) refl)
   statement_read (GetChar p) g (suc n) rest h k f =
@@ -260,7 +261,7 @@ mutual
   statement_read (Return a) g (suc n) rest h k f = return_read g a rest (omega arith)
 
   pub body_read : (b : Body) (g n f : ℕ) (rest : List Token) → body_need b ≤ g → body_need b ≤ n → body_need b ≤ f
-    → read_body (read_statement g n) f (spell_body b (Sign mark.CloseBrace ∷ rest)) ≡ (b, Sign mark.CloseBrace ∷ rest)
+      → read_body (read_statement g n) f (spell_body b (Sign mark.CloseBrace ∷ rest)) ≡ (b, Sign mark.CloseBrace ∷ rest)
   body_read Empty g n zero rest h k i = refl
   body_read Empty g n (suc f) rest h k i = refl
   body_read (Then s more) g n zero rest h k i = absurd (grind arith)

@@ -1,10 +1,10 @@
 -- Demands stand at the tokens of which they speak: parts in a row, and lists.
-use Rattle.std.proofs.Common.{◌≡◌, ℕ, zero, suc, ◌+◌, ◌≤◌, List, [], ◌∷◌, ◌++◌, length, Option, Some, None, refl, sym, ◌∙◌, ap, arith}
-use Rattle.std.specs.Prelude.{slice_get, map}
+use Rattle.std.proofs.Common.{◌≡◌, ℕ, suc, ◌+◌, List, [], ◌∷◌, ◌++◌, length, refl, ◌∙◌, ap, arith}
+use Rattle.std.specs.Prelude.{slice_get}
 use Rattle.std.specs.List.{AllByRecursion}
-use Rattle.c_grammar.specs.Token.{Token, Identifier}
+use Rattle.c_grammar.specs.Token.{Token}
 use Rattle.c_grammar.specs.Spelling.{Spelling, count, spell_all, spell_next, spell_listed}
-use Rattle.c_grammar.specs.Demands.{Demand, Demands, after, all_demands, listed_demands}
+use Rattle.c_grammar.specs.Demands.{Demands, after, all_demands, listed_demands}
 use Rattle.c_grammar.specs.Laws.{Stands}
 use Rattle.c_grammar.proofs.Spelled.{Follow, count_more, next_follow}
 
@@ -27,7 +27,7 @@ pub over : {A : Type 0} {tokens ts : List Token} {n : ℕ} (spell : Spelling A) 
 over {ts} spell follow a l = record {
   front = spell a l.front;
   whole = ap (spell a) l.whole ∙ follow a l.front ts;
-  long = omega (arith, l.long, count_more spell follow a l.front)
+  long = omega (arith, l.long, count_more spell follow a l.front);
 }
 
 get_after : (front ts : List Token) (n : ℕ) → slice_get (front ++ ts) (length front + n) ≡ slice_get ts n
@@ -53,14 +53,14 @@ module _ {S A : Type 0} (spell : Spelling A) (follow : Follow spell) (step : S �
   all_stand each s [] rest = tt
   all_stand each s (a ∷ more) rest =
       stand_both (spell a (spell_all spell more rest)) (demands s a) (after (count spell a) (all_demands spell step demands (step s a) more)) (each s a (spell_all spell more rest))
-        (stand_later (over spell follow a here) (count spell a) (all_demands spell step demands (step s a) more) (omega arith) (all_stand each (step s a) more rest))
+      (stand_later (over spell follow a here) (count spell a) (all_demands spell step demands (step s a) more) (omega arith) (all_stand each (step s a) more rest))
 
 pub listed_stand : {S A : Type 0} (spell : Spelling A) (follow : Follow spell) (step : S → A → S) (demands : S → A → Demands) → ((s : S) (a : A) (rest : List Token) → Stand (spell a rest) (demands s a))
-  → (s : S) (all : List A) (rest : List Token) → Stand (spell_listed spell all rest) (listed_demands spell step demands s all)
+    → (s : S) (all : List A) (rest : List Token) → Stand (spell_listed spell all rest) (listed_demands spell step demands s all)
 listed_stand spell follow step demands each s [] rest = tt
 listed_stand {S} {A} spell follow step demands each s (a ∷ more) rest =
     let next = spell_next spell in
     let inner : S → A → Demands = λ s a. after 1 (demands s a) in
     stand_both (spell a (spell_all next more rest)) (demands s a) (after (count spell a) (all_demands next step inner (step s a) more)) (each s a (spell_all next more rest))
-      (stand_later (over spell follow a here) (count spell a) (all_demands next step inner (step s a) more) (omega arith)
-        (all_stand next (next_follow spell follow) step inner (λ s a rest. stand_later (one _ here) 1 (demands s a) (omega arith) (each s a rest)) (step s a) more rest))
+    (stand_later (over spell follow a here) (count spell a) (all_demands next step inner (step s a) more) (omega arith)
+    (all_stand next (next_follow spell follow) step inner (λ s a rest. stand_later (one _ here) 1 (demands s a) (omega arith) (each s a rest)) (step s a) more rest))

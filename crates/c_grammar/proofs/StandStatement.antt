@@ -1,5 +1,5 @@
 -- The demands of types, expressions and statements stand at the tokens of which they speak.
-use Rattle.std.proofs.Common.{◌≡◌, ℕ, zero, suc, ◌+◌, List, [], ◌∷◌, ◌++◌, length, Option, Some, None, refl, arith}
+use Rattle.std.proofs.Common.{◌≡◌, ℕ, suc, ◌+◌, List, ◌∷◌, ◌++◌, Option, Some, None, refl, arith}
 use Rattle.std.specs.Prelude.{slice_get}
 use Rattle.c_tree.specs.Tree.{ObjectType, Int, Word, Byte, Struct, Named, VoidPointer, Pointer, Expr, Read, Number, WordNumber, Null, Address, Unary, Binary, Cast, Place, Variable, Pointee, Member, Index, Statement, Assign, Call, Malloc, Free, GetChar, PutChar, If, IfElse, While, Goto, Label, Return, Body, Empty, Then}
 use Rattle.c_tree.specs.declared.operators.CCast.{CCast}
@@ -10,10 +10,10 @@ use Rattle.c_grammar.specs.declared.token.Word.TheVariants as word
 use Rattle.c_grammar.specs.declared.token.Mark.TheVariants as mark
 use Rattle.c_grammar.specs.Token.{Token, Identifier, Quoted, Sign}
 use Rattle.c_grammar.specs.Types.{Known}
-use Rattle.c_grammar.specs.Spelling.{count, unary_mark, binary_mark, spell_listed, spell_type, spell_result, spell_cast, spell_expr, spell_place, spell_into, spell_callee, spell_value, spell_statement, spell_body}
-use Rattle.c_grammar.specs.Demands.{Names, Demand, Level, Demands, after, listed_demands, same, pointed_demands, type_demands, result_demands, cast_demands, expr_demands, place_demands, into_demands, callee_demands, value_demands, own_labels, labels_in, labels_of, statement_demands, body_demands}
-use Rattle.c_grammar.proofs.Spelled.{type_follow, cast_follow, expr_follow, place_follow, into_follow, callee_follow, statement_follow, body_follow}
-use Rattle.c_grammar.proofs.Stand.{Stand, Later, here, one, over, stand_later, stand_both, listed_stand}
+use Rattle.c_grammar.specs.Spelling.{count, binary_mark, spell_listed, spell_type, spell_cast, spell_expr, spell_place, spell_into, spell_callee, spell_value, spell_statement, spell_body}
+use Rattle.c_grammar.specs.Demands.{Names, Level, Demands, after, listed_demands, same, pointed_demands, type_demands, cast_demands, expr_demands, place_demands, into_demands, callee_demands, value_demands, own_labels, labels_in, labels_of, statement_demands, body_demands}
+use Rattle.c_grammar.proofs.Spelled.{cast_follow, expr_follow, place_follow, into_follow, callee_follow, statement_follow, body_follow}
+use Rattle.c_grammar.proofs.Stand.{Stand, here, one, over, stand_later, stand_both, listed_stand}
 
 pointed_stand : (k : Known) (of : ObjectType) (rest : List Token) → Stand (spell_type of rest) (pointed_demands k of)
 pointed_stand k Int rest = tt
@@ -61,26 +61,26 @@ mutual
   expr_stand k level Null rest = ((Quoted word.Null, refl, tt), tt)
   expr_stand k level (Address p) rest =
       leveled level (spell_expr (Address p) rest) (after 2 (place_demands k (suc level) p)) (Sign mark.Open, refl)
-        (stand_later (one _ (one _ here)) 2 (place_demands k (suc level) p) (omega arith) (place_stand k (suc level) p (Sign mark.Close ∷ rest)))
+      (stand_later (one _ (one _ here)) 2 (place_demands k (suc level) p) (omega arith) (place_stand k (suc level) p (Sign mark.Close ∷ rest)))
   expr_stand k level (Unary op a) rest =
       leveled level (spell_expr (Unary op a) rest) (after 2 (expr_demands k (suc level) a)) (Sign mark.Open, refl)
-        (stand_later (one _ (one _ here)) 2 (expr_demands k (suc level) a) (omega arith) (expr_stand k (suc level) a (Sign mark.Close ∷ rest)))
+      (stand_later (one _ (one _ here)) 2 (expr_demands k (suc level) a) (omega arith) (expr_stand k (suc level) a (Sign mark.Close ∷ rest)))
   expr_stand k level (Binary op a b) rest =
       let ts = spell_expr (Binary op a b) rest in
       let da = expr_demands k (suc level) a in let db = expr_demands k (suc level) b in
       let m = count spell_expr a + 2 in
       leveled level ts (after 1 da ++ after m db) (Sign mark.Open, refl)
-        (stand_both ts (after 1 da) (after m db)
-          (stand_later (one _ here) 1 da (omega arith) (expr_stand k (suc level) a (Sign (binary_mark op) ∷ spell_expr b (Sign mark.Close ∷ rest))))
-          (stand_later (one _ (over spell_expr expr_follow a (one _ here))) m db (omega arith) (expr_stand k (suc level) b (Sign mark.Close ∷ rest))))
+      (stand_both ts (after 1 da) (after m db)
+      (stand_later (one _ here) 1 da (omega arith) (expr_stand k (suc level) a (Sign (binary_mark op) ∷ spell_expr b (Sign mark.Close ∷ rest))))
+      (stand_later (one _ (over spell_expr expr_follow a (one _ here))) m db (omega arith) (expr_stand k (suc level) b (Sign mark.Close ∷ rest))))
   expr_stand k level (Cast to a) rest =
       let ts = spell_expr (Cast to a) rest in
       let dt = cast_demands k to in let da = expr_demands k (suc level) a in
       let m = count spell_cast to + 3 in
       leveled level ts (after 2 dt ++ after m da) (Sign mark.Open, refl)
-        (stand_both ts (after 2 dt) (after m da)
-          (stand_later (one _ (one _ here)) 2 dt (omega arith) (cast_stand k to (Sign mark.Close ∷ spell_expr a (Sign mark.Close ∷ rest))))
-          (stand_later (one _ (one _ (over spell_cast cast_follow to (one _ here)))) m da (omega arith) (expr_stand k (suc level) a (Sign mark.Close ∷ rest))))
+      (stand_both ts (after 2 dt) (after m da)
+      (stand_later (one _ (one _ here)) 2 dt (omega arith) (cast_stand k to (Sign mark.Close ∷ spell_expr a (Sign mark.Close ∷ rest))))
+      (stand_later (one _ (one _ (over spell_cast cast_follow to (one _ here)))) m da (omega arith) (expr_stand k (suc level) a (Sign mark.Close ∷ rest))))
 
   pub place_stand : (k : Known) (level : ℕ) (p : Place) (rest : List Token) → Stand (spell_place p rest) (place_demands k level p)
   place_stand k level (Variable n) rest = tt
@@ -90,8 +90,8 @@ mutual
       let dp = place_demands k level p in let da = expr_demands k level a in
       let m = count spell_place p + 1 in
       stand_both (spell_place (Index p a) rest) dp (after m da)
-        (place_stand k level p (Sign mark.OpenBracket ∷ spell_expr a (Sign mark.CloseBracket ∷ rest)))
-        (stand_later (over spell_place place_follow p (one _ here)) m da (omega arith) (expr_stand k level a (Sign mark.CloseBracket ∷ rest)))
+      (place_stand k level p (Sign mark.OpenBracket ∷ spell_expr a (Sign mark.CloseBracket ∷ rest)))
+      (stand_later (over spell_place place_follow p (one _ here)) m da (omega arith) (expr_stand k level a (Sign mark.CloseBracket ∷ rest)))
 
 -- ---- statements
 
@@ -113,19 +113,19 @@ call_starts None (Indirect a) rest = (Sign mark.Open, refl)
 call_starts (Some p) c rest = place_starts p (Sign mark.Assign ∷ spell_callee c rest)
 
 call_stand : (k : Known) (reached above : Names) (level : ℕ) (into : Option Place) (c : CCallee) (all : List Expr) (rest : List Token)
-  → Stand (spell_statement (Call into c all) rest) (statement_demands k reached above level (Call into c all))
+    → Stand (spell_statement (Call into c all) rest) (statement_demands k reached above level (Call into c all))
 call_stand k reached above level into c all rest =
     let ts = spell_statement (Call into c all) rest in
     let end = spell_listed spell_expr all (Sign mark.Close ∷ Sign mark.Semicolon ∷ rest) in
     let di = into_demands k (suc level) into in let dc = callee_demands k (suc level) c in let da = listed_demands spell_expr same (expr_demands k) (suc level) all in
     let n = count spell_into into in let m = n + count spell_callee c + 1 in
     leveled level ts (di ++ after n dc ++ after m da) (call_starts into c (Sign mark.Open ∷ end))
-      (stand_both ts (di ++ after n dc) (after m da)
-        (stand_both ts di (after n dc)
-          (into_stand k (suc level) into (spell_callee c (Sign mark.Open ∷ end)))
-          (stand_later (over spell_into into_follow into here) n dc (omega arith) (callee_stand k (suc level) c (Sign mark.Open ∷ end))))
-        (stand_later (over spell_into into_follow into (over spell_callee callee_follow c (one _ here))) m da (omega arith)
-          (listed_stand spell_expr expr_follow same (expr_demands k) (λ s a rest. expr_stand k s a rest) (suc level) all (Sign mark.Close ∷ Sign mark.Semicolon ∷ rest))))
+    (stand_both ts (di ++ after n dc) (after m da)
+    (stand_both ts di (after n dc)
+    (into_stand k (suc level) into (spell_callee c (Sign mark.Open ∷ end)))
+    (stand_later (over spell_into into_follow into here) n dc (omega arith) (callee_stand k (suc level) c (Sign mark.Open ∷ end))))
+    (stand_later (over spell_into into_follow into (over spell_callee callee_follow c (one _ here))) m da (omega arith)
+    (listed_stand spell_expr expr_follow same (expr_demands k) (λ s a rest. expr_stand k s a rest) (suc level) all (Sign mark.Close ∷ Sign mark.Semicolon ∷ rest))))
 
 -- what begins with a word, a parenthesis and an expression
 test_stand : (k : Known) (level : ℕ) (t : Token) (a : Expr) (rest : List Token) → Stand (t ∷ Sign mark.Open ∷ spell_expr a rest) (after 2 (expr_demands k (suc level) a))
@@ -137,16 +137,16 @@ mutual
       let ts = spell_statement (Assign p a) rest in let after_p = Sign mark.Assign ∷ spell_expr a (Sign mark.Semicolon ∷ rest) in
       let dp = place_demands k (suc level) p in let da = expr_demands k (suc level) a in let m = count spell_place p + 1 in
       leveled level ts (dp ++ after m da) (place_starts p after_p)
-        (stand_both ts dp (after m da) (place_stand k (suc level) p after_p)
-          (stand_later (over spell_place place_follow p (one _ here)) m da (omega arith) (expr_stand k (suc level) a (Sign mark.Semicolon ∷ rest))))
+      (stand_both ts dp (after m da) (place_stand k (suc level) p after_p)
+      (stand_later (over spell_place place_follow p (one _ here)) m da (omega arith) (expr_stand k (suc level) a (Sign mark.Semicolon ∷ rest))))
   statement_stand k reached above level (Call into c all) rest = call_stand k reached above level into c all rest
   statement_stand k reached above level (Malloc p of) rest =
       let ts = spell_statement (Malloc p of) rest in let end = Sign mark.Close ∷ Sign mark.Close ∷ Sign mark.Semicolon ∷ rest in
       let after_p = Sign mark.Assign ∷ Quoted word.Malloc ∷ Sign mark.Open ∷ Quoted word.SizeOf ∷ Sign mark.Open ∷ spell_type of end in
       let dp = place_demands k (suc level) p in let dt = type_demands k of in let m = count spell_place p + 5 in
       leveled level ts (dp ++ after m dt) (place_starts p after_p)
-        (stand_both ts dp (after m dt) (place_stand k (suc level) p after_p)
-          (stand_later (over spell_place place_follow p (one _ (one _ (one _ (one _ (one _ here)))))) m dt (omega arith) (type_stand k of end)))
+      (stand_both ts dp (after m dt) (place_stand k (suc level) p after_p)
+      (stand_later (over spell_place place_follow p (one _ (one _ (one _ (one _ (one _ here)))))) m dt (omega arith) (type_stand k of end)))
   statement_stand k reached above level (Free a) rest =
       leveled level (spell_statement (Free a) rest) (after 2 (expr_demands k (suc level) a)) (Quoted word.Free, refl) (test_stand k level (Quoted word.Free) a (Sign mark.Close ∷ Sign mark.Semicolon ∷ rest))
   statement_stand k reached above level (GetChar p) rest =
@@ -158,8 +158,8 @@ mutual
       let ts = spell_statement (If test a) rest in let end = Sign mark.CloseBrace ∷ rest in
       let dt = expr_demands k (suc level) test in let da = body_demands k (own_labels a ++ reached) above (suc level) a in let m = count spell_expr test + 4 in
       leveled level ts (after 2 dt ++ after m da) (Quoted word.If, refl)
-        (stand_both ts (after 2 dt) (after m da) (test_stand k level (Quoted word.If) test (Sign mark.Close ∷ Sign mark.OpenBrace ∷ spell_body a end))
-          (stand_later (one _ (one _ (over spell_expr expr_follow test (one _ (one _ here))))) m da (omega arith) (body_stand k (own_labels a ++ reached) above (suc level) a end)))
+      (stand_both ts (after 2 dt) (after m da) (test_stand k level (Quoted word.If) test (Sign mark.Close ∷ Sign mark.OpenBrace ∷ spell_body a end))
+      (stand_later (one _ (one _ (over spell_expr expr_follow test (one _ (one _ here))))) m da (omega arith) (body_stand k (own_labels a ++ reached) above (suc level) a end)))
   statement_stand k reached above level (IfElse test a b) rest =
       let ts = spell_statement (IfElse test a b) rest in let end = Sign mark.CloseBrace ∷ rest in
       let second = Sign mark.CloseBrace ∷ Quoted word.Else ∷ Sign mark.OpenBrace ∷ spell_body b end in
@@ -167,26 +167,26 @@ mutual
       let db = body_demands k (own_labels b ++ reached) (above ++ labels_of a) (suc level) b in
       let m = count spell_expr test + 4 in let n = count spell_expr test + count spell_body a + 7 in
       leveled level ts (after 2 dt ++ after m da ++ after n db) (Quoted word.If, refl)
-        (stand_both ts (after 2 dt ++ after m da) (after n db)
-          (stand_both ts (after 2 dt) (after m da) (test_stand k level (Quoted word.If) test (Sign mark.Close ∷ Sign mark.OpenBrace ∷ spell_body a second))
-            (stand_later (one _ (one _ (over spell_expr expr_follow test (one _ (one _ here))))) m da (omega arith) (body_stand k (own_labels a ++ reached) above (suc level) a second)))
-          (stand_later (one _ (one _ (over spell_expr expr_follow test (one _ (one _ (over spell_body body_follow a (one _ (one _ (one _ here))))))))) n db (omega arith)
-            (body_stand k (own_labels b ++ reached) (above ++ labels_of a) (suc level) b end)))
+      (stand_both ts (after 2 dt ++ after m da) (after n db)
+      (stand_both ts (after 2 dt) (after m da) (test_stand k level (Quoted word.If) test (Sign mark.Close ∷ Sign mark.OpenBrace ∷ spell_body a second))
+      (stand_later (one _ (one _ (over spell_expr expr_follow test (one _ (one _ here))))) m da (omega arith) (body_stand k (own_labels a ++ reached) above (suc level) a second)))
+      (stand_later (one _ (one _ (over spell_expr expr_follow test (one _ (one _ (over spell_body body_follow a (one _ (one _ (one _ here))))))))) n db (omega arith)
+      (body_stand k (own_labels b ++ reached) (above ++ labels_of a) (suc level) b end)))
   statement_stand k reached above level (While test a) rest =
       let ts = spell_statement (While test a) rest in let end = Sign mark.CloseBrace ∷ rest in
       let dt = expr_demands k (suc level) test in let da = body_demands k (own_labels a ++ reached) above (suc level) a in let m = count spell_expr test + 4 in
       leveled level ts (after 2 dt ++ after m da) (Quoted word.While, refl)
-        (stand_both ts (after 2 dt) (after m da) (test_stand k level (Quoted word.While) test (Sign mark.Close ∷ Sign mark.OpenBrace ∷ spell_body a end))
-          (stand_later (one _ (one _ (over spell_expr expr_follow test (one _ (one _ here))))) m da (omega arith) (body_stand k (own_labels a ++ reached) above (suc level) a end)))
+      (stand_both ts (after 2 dt) (after m da) (test_stand k level (Quoted word.While) test (Sign mark.Close ∷ Sign mark.OpenBrace ∷ spell_body a end))
+      (stand_later (one _ (one _ (over spell_expr expr_follow test (one _ (one _ here))))) m da (omega arith) (body_stand k (own_labels a ++ reached) above (suc level) a end)))
   statement_stand k reached above level (Goto l) rest = ((Quoted word.Goto, refl, tt), ((Identifier l, refl, refl), tt))
   statement_stand k reached above level (Label l) rest = ((Identifier l, refl, tt), ((Identifier l, refl, refl), tt))
   statement_stand k reached above level (Return a) rest =
       leveled level (spell_statement (Return a) rest) (after 1 (value_demands k (suc level) a)) (Quoted word.Return, refl)
-        (stand_later (one (Quoted word.Return) here) 1 (value_demands k (suc level) a) (omega arith) (value_stand k (suc level) a (Sign mark.Semicolon ∷ rest)))
+      (stand_later (one (Quoted word.Return) here) 1 (value_demands k (suc level) a) (omega arith) (value_stand k (suc level) a (Sign mark.Semicolon ∷ rest)))
 
   pub body_stand : (k : Known) (reached above : Names) (level : ℕ) (b : Body) (rest : List Token) → Stand (spell_body b rest) (body_demands k reached above level b)
   body_stand k reached above level Empty rest = tt
   body_stand k reached above level (Then s more) rest =
       let ds = statement_demands k reached above level s in let dm = body_demands k reached (above ++ labels_in s) level more in let m = count spell_statement s in
       stand_both (spell_body (Then s more) rest) ds (after m dm) (statement_stand k reached above level s (spell_body more rest))
-        (stand_later (over spell_statement statement_follow s here) m dm (omega arith) (body_stand k reached (above ++ labels_in s) level more rest))
+      (stand_later (over spell_statement statement_follow s here) m dm (omega arith) (body_stand k reached (above ++ labels_in s) level more rest))

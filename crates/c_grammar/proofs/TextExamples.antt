@@ -1,5 +1,5 @@
 -- Worked examples: texts, by what follows the head lines. A failing demand is named by the number of tokens before it.
-use Rattle.std.proofs.Common.{◌≡◌, ℕ, List, [], ◌∷◌, ◌++◌, length, Option, Some, None, refl}
+use Rattle.std.proofs.Common.{◌≡◌, [], ◌∷◌, refl}
 use Rattle.std.specs.Prelude.{codes}
 use Rattle.c_grammar.specs.declared.fault.CTextKind.TheVariants.{BadGoto, DoubleName, BadType}
 use Rattle.c_grammar.proofs.Worked.{tokens_of, tree_of, Shows, levels_of}

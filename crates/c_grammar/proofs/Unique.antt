@@ -1,8 +1,7 @@
 -- The bytes determine the tokens.
-use Rattle.std.proofs.Common.{◌≡◌, ◌≢◌, ◌⊎◌, ℕ, ◌+◌, Bool, true, false, IsTrue, List, [], ◌∷◌, ◌++◌, length, Some, None, refl, sym, ◌∙◌, ap, subst, inl, inr, arith}
+use Rattle.std.proofs.Common.{◌≡◌, ◌≢◌, ◌⊎◌, ℕ, ◌+◌, IsTrue, List, [], ◌∷◌, ◌++◌, length, Some, None, refl, sym, ◌∙◌, ap, inl, inr, arith}
 use Rattle.std.proofs.lemmas.List.{append_cancel_left}
-use Rattle.std.specs.Prelude.{◌==◌, ◌||◌}
-use Rattle.c_grammar.specs.Token.{Token, Placed, placed, form, form_by, is_white, IsLongest, Cut, nothing, white, token, head_lines, IsTokens}
+use Rattle.c_grammar.specs.Token.{Token, Placed, placed, form, form_by, is_white, Cut, nothing, white, token, head_lines, IsTokens}
 
 -- two ways to cut a list in two
 data Split (f g x y : List ℕ) : Type 0 where
@@ -18,9 +17,10 @@ split (c ∷ f) (d ∷ g) x y e =
     let q : f ++ x ≡ g ++ y = cc in
     let h : c ≡ d = cc in
     elim (split f g x y q) [
-      even a b ↦ even (cc) b
-    | shorter more n a b ↦ shorter more n (cc) b
-    | longer more n a b ↦ longer more n (cc) b ]
+      | even a b ↦ even (cc) b
+      | shorter more n a b ↦ shorter more n (cc) b
+      | longer more n a b ↦ longer more n (cc) b
+    ]
 
 white_is : (b : ℕ) → IsTrue (is_white b) → (b ≡ 9) ⊎ ((b ≡ 10) ⊎ (b ≡ 32))
 white_is b h = grind arith
@@ -51,11 +51,12 @@ same_cut (token n (b ∷ f) v t us r l c) (white m b' w ts s h d) en ex er es =
     let e : b' ≡ b = cc in some_none (sym (white_form b' f h) ∙ ap (λ k. form_by k f) e ∙ l.is)
 same_cut (token n (b ∷ f) v t us r l c) (token m g w u ts s k d) en ex er es =
     elim (split (b ∷ f) g v w ex) [
-      even p q ↦
-        let same : t ≡ u = some_same (sym l.is ∙ ap form p ∙ k.is) in
-        λ i. placed (same i) (en i) ∷ same_cut c d (λ j. en j + length (p j)) q er es i
-    | shorter more some p q ↦ some_none (sym (l.no_longer more w q some) ∙ ap form (sym p) ∙ k.is)
-    | longer more some p q ↦ some_none (sym (k.no_longer more v q some) ∙ ap form (sym p) ∙ l.is) ]
+      | even p q ↦
+          let same : t ≡ u = some_same (sym l.is ∙ ap form p ∙ k.is) in
+          λ i. placed (same i) (en i) ∷ same_cut c d (λ j. en j + length (p j)) q er es i
+      | shorter more some p q ↦ some_none (sym (l.no_longer more w q some) ∙ ap form (sym p) ∙ k.is)
+      | longer more some p q ↦ some_none (sym (k.no_longer more v q some) ∙ ap form (sym p) ∙ l.is)
+    ]
 
 pub same_tokens : (bytes : List ℕ) (a b : List Placed) → IsTokens bytes a → IsTokens bytes b → a ≡ b
 same_tokens bytes a b (body, e, c) (other, f, d) = same_cut c d refl (append_cancel_left head_lines body other (sym e ∙ f)) refl refl

@@ -18,15 +18,15 @@ use Rattle.c_grammar.proofs.Unique.{same_tokens}
 
 -- ---- a program as a list of parts
 
-abbrev parts : CProgram → List Part
+abbrev pub parts : CProgram → List Part
 parts c = map Forward c.forwards ++ (map Declaration c.declarations ++ (map Global c.globals ++ (map Prototype c.prototypes ++ (map Function c.functions ++ []))))
 
 spell_mapped : {A : Type 0} (as_part : A → Part) (spell : Spelling A) → ((a : A) (rest : List Token) → spell_part (as_part a) rest ≡ spell a rest)
-  → (all : List A) (more : List Part) (rest : List Token) → spell_all spell_part (map as_part all ++ more) rest ≡ spell_all spell all (spell_all spell_part more rest)
+    → (all : List A) (more : List Part) (rest : List Token) → spell_all spell_part (map as_part all ++ more) rest ≡ spell_all spell all (spell_all spell_part more rest)
 spell_mapped as_part spell same [] more rest = refl
 spell_mapped as_part spell same (a ∷ all) more rest = same a (spell_all spell_part (map as_part all ++ more) rest) ∙ ap (spell a) (spell_mapped as_part spell same all more rest)
 
-spelled : (c : CProgram) → spell_all spell_part (parts c) (spell_main c.main []) ≡ program_tokens c
+pub spelled : (c : CProgram) → spell_all spell_part (parts c) (spell_main c.main []) ≡ program_tokens c
 spelled c =
     let m = spell_main c.main [] in
     spell_mapped Forward spell_forward (λ a rest. refl) c.forwards _ m
@@ -64,12 +64,12 @@ functions_in (p ∷ more) = functions_in more
 
 -- a function that keeps what stands for some parts gives them all
 kept : {A B : Type 0} (as_part : A → Part) (items : List Part → List B) (from : A → B) → ((a : A) (more : List Part) → items (as_part a ∷ more) ≡ from a ∷ items more)
-  → (all : List A) (more : List Part) → items (map as_part all ++ more) ≡ map from all ++ items more
+    → (all : List A) (more : List Part) → items (map as_part all ++ more) ≡ map from all ++ items more
 kept as_part items from keeps [] more = refl
 kept as_part items from keeps (a ∷ all) more = keeps a (map as_part all ++ more) ∙ ap (λ l. from a ∷ l) (kept as_part items from keeps all more)
 
 skipped : {A B : Type 0} (as_part : A → Part) (items : List Part → List B) → ((a : A) (more : List Part) → items (as_part a ∷ more) ≡ items more)
-  → (all : List A) (more : List Part) → items (map as_part all ++ more) ≡ items more
+    → (all : List A) (more : List Part) → items (map as_part all ++ more) ≡ items more
 skipped as_part items skips [] more = refl
 skipped as_part items skips (a ∷ all) more = skips a (map as_part all ++ more) ∙ skipped as_part items skips all more
 
@@ -85,14 +85,14 @@ module _ (c : CProgram) where
   forwards_are =
       kept Forward forwards_in (λ a. a) (λ a more. refl) c.forwards _
       ∙ all_kept c.forwards _ (skipped Declaration forwards_in (λ a more. refl) c.declarations _ ∙ skipped Global forwards_in (λ a more. refl) c.globals _
-        ∙ skipped Prototype forwards_in (λ a more. refl) c.prototypes _ ∙ skipped Function forwards_in (λ a more. refl) c.functions [])
+      ∙ skipped Prototype forwards_in (λ a more. refl) c.prototypes _ ∙ skipped Function forwards_in (λ a more. refl) c.functions [])
 
   declarations_are : declarations_in (parts c) ≡ c.declarations
   declarations_are =
       skipped Forward declarations_in (λ a more. refl) c.forwards _
       ∙ kept Declaration declarations_in (λ a. a) (λ a more. refl) c.declarations _
       ∙ all_kept c.declarations _ (skipped Global declarations_in (λ a more. refl) c.globals _
-        ∙ skipped Prototype declarations_in (λ a more. refl) c.prototypes _ ∙ skipped Function declarations_in (λ a more. refl) c.functions [])
+      ∙ skipped Prototype declarations_in (λ a more. refl) c.prototypes _ ∙ skipped Function declarations_in (λ a more. refl) c.functions [])
 
   globals_are : globals_in (parts c) ≡ c.globals
   globals_are =
@@ -117,14 +117,22 @@ module _ (c : CProgram) where
 
 abbrev pub program_of : List Part × CMain → CProgram
 program_of p = record {
-  forwards = forwards_in p.0; declarations = declarations_in p.0; globals = globals_in p.0;
-  prototypes = prototypes_in p.0; functions = functions_in p.0; main = p.1
+  forwards = forwards_in p.0;
+  declarations = declarations_in p.0;
+  globals = globals_in p.0;
+  prototypes = prototypes_in p.0;
+  functions = functions_in p.0;
+  main = p.1;
 }
 
 program_is : (c : CProgram) → program_of (parts c, c.main) ≡ c
 program_is c = λ i. record {
-  forwards = forwards_are c i; declarations = declarations_are c i; globals = globals_are c i;
-  prototypes = prototypes_are c i; functions = functions_are c i; main = c.main
+  forwards = forwards_are c i;
+  declarations = declarations_are c i;
+  globals = globals_are c i;
+  prototypes = prototypes_are c i;
+  functions = functions_are c i;
+  main = c.main;
 }
 
 abbrev program_need : CProgram → ℕ

@@ -1,11 +1,10 @@
 -- What the definitions say of the bytes after the head lines, computed.
 use Rattle.std.proofs.Common.{◌≡◌, ℕ, ◌+◌, List, [], ◌∷◌, ◌++◌, length, Option, Some, None, refl, subst}
-use Rattle.std.specs.Prelude.{map, codes}
 use Rattle.c_tree.specs.declared.program.CProgram.{CProgram}
 use Rattle.c_grammar.specs.declared.fault.CTextKind.{CTextKind}
 use Rattle.c_grammar.specs.Token.{Token, Placed, IsTokens, head_lines}
 use Rattle.c_grammar.specs.Spelling.{program_tokens}
-use Rattle.c_grammar.specs.Demands.{Demands, Demand, Level, Leads, Differs, Declared, Length, Cells, program_demands}
+use Rattle.c_grammar.specs.Demands.{Demands, Level, program_demands}
 use Rattle.c_grammar.specs.Text.{plain}
 use Rattle.c_grammar.proofs.Cutting.{Cutting, cuts, piece, word_piece, zero_piece, number_piece, mark_piece, single_piece, after_white, after_token, span}
 use Rattle.c_grammar.proofs.Reading.{many, stars, selectors, read_expr}
@@ -18,10 +17,14 @@ abbrev pub found_tokens : {n : ℕ} {body : List ℕ} → Option (Cutting n body
 found_tokens None = []
 found_tokens (Some c) = c.tokens
 
--- their tokens, or none where a byte belongs to none
-unfoldable pub placed_of : List ℕ → List Placed
+-- how the bytes are cut, where each belongs to a token
+unfoldable pub cut_of : (body : List ℕ) → Option (Cutting (length head_lines) body)
 unfolding cuts piece word_piece zero_piece number_piece mark_piece single_piece after_white after_token span
-placed_of body = found_tokens (cuts (length body + 1) (length head_lines) body)
+cut_of body = cuts (length body + 1) (length head_lines) body
+
+unfoldable pub placed_of : List ℕ → List Placed
+unfolding cut_of
+placed_of body = found_tokens (cut_of body)
 
 unfoldable pub tokens_of : List ℕ → List Token
 unfolding placed_of
@@ -52,4 +55,4 @@ found_by {body} t more (Some k) e = subst (IsTokens (head_lines ++ body)) e (bod
 -- tokens that were found are those of the bytes
 pub are_tokens : (body : List ℕ) (t : Placed) (more : List Placed) → placed_of body ≡ t ∷ more → IsTokens (head_lines ++ body) (t ∷ more)
 unfolding placed_of
-are_tokens body t more e = found_by t more (cuts (length body + 1) (length head_lines) body) e
+are_tokens body t more e = found_by t more (cut_of body) e

@@ -1,8 +1,8 @@
 -- The further conditions: what is demanded at which token of a tree.
-use Rattle.std.specs.Prelude.{◌≡◌, ℕ, suc, ◌+◌, ◌*◌, ◌≤◌, Bool, true, false, IsTrue, List, [], ◌∷◌, ◌++◌, Option, Some, None, map}
-use Rattle.std.specs.List.{list_any, fold, Contains, AllByRecursion}
+use Rattle.std.specs.Prelude.{◌≡◌, ℕ, suc, ◌+◌, ◌≤◌, Bool, false, IsTrue, List, [], ◌∷◌, ◌++◌, Option, Some, None, map}
+use Rattle.std.specs.List.{list_any, fold, AllByRecursion}
 use Rattle.std.specs.Str.{bytes_eq}
-use Rattle.c_tree.specs.Tree.{ObjectType, Int, Word, Byte, Struct, Named, VoidPointer, Pointer, Expr, Read, Number, WordNumber, Null, Address, Unary, Binary, Cast, Place, Variable, Pointee, Member, Index, Statement, Assign, Call, Malloc, Free, GetChar, PutChar, If, IfElse, While, Goto, Label, Return, Body, Empty, Then, body_of}
+use Rattle.c_tree.specs.Tree.{ObjectType, Struct, Named, Pointer, Expr, Read, Number, WordNumber, Null, Address, Unary, Binary, Cast, Place, Variable, Pointee, Member, Index, Statement, Assign, Call, Malloc, Free, GetChar, PutChar, If, IfElse, While, Goto, Label, Return, Body, Empty, Then, body_of}
 use Rattle.c_tree.specs.declared.operators.CCast.{CCast}
 use Rattle.c_tree.specs.declared.operators.CCast.TheVariants as cast
 use Rattle.c_tree.specs.declared.statement.CCallee.{CCallee}
@@ -274,10 +274,10 @@ program_demands c =
     let k = known seen in
     let with_globals = and_variables seen.typedefs c.globals in
     in_row (
-      (count (spell_all spell_forward) c.forwards, all_demands spell_forward and_name forward_demands [] c.forwards)
-      ∷ (count (spell_all spell_declaration) c.declarations, all_demands spell_declaration see declaration_demands (seen_first c) c.declarations)
-      ∷ (count (spell_all spell_variable_line) c.globals, all_demands spell_variable_line and_variable (variable_demands k) seen.typedefs c.globals)
-      ∷ (count (spell_all spell_prototype) c.prototypes, all_demands spell_prototype same (prototype_demands k) with_globals c.prototypes)
-      ∷ (count (spell_all spell_function) c.functions, all_demands spell_function and_function (function_demands k) with_globals c.functions)
-      ∷ (0, main_demands k c.main)
-      ∷ [])
+    (count (spell_all spell_forward) c.forwards, all_demands spell_forward and_name forward_demands [] c.forwards)
+    ∷ (count (spell_all spell_declaration) c.declarations, all_demands spell_declaration see declaration_demands (seen_first c) c.declarations)
+    ∷ (count (spell_all spell_variable_line) c.globals, all_demands spell_variable_line and_variable (variable_demands k) seen.typedefs c.globals)
+    ∷ (count (spell_all spell_prototype) c.prototypes, all_demands spell_prototype same (prototype_demands k) with_globals c.prototypes)
+    ∷ (count (spell_all spell_function) c.functions, all_demands spell_function and_function (function_demands k) with_globals c.functions)
+    ∷ (0, main_demands k c.main)
+    ∷ [])

@@ -1,5 +1,5 @@
 -- What the grammar asks of a tree beyond its form: names are identifiers, numbers are in range, and a struct has a member.
-use Rattle.std.specs.Prelude.{◌≡◌, ◌≢◌, ℕ, ◌^◌, ◌<◌, List, [], ◌∷◌, Option, Some, None}
+use Rattle.std.specs.Prelude.{◌≡◌, ◌≢◌, ℕ, ◌^◌, ◌<◌, List, [], Some}
 use Rattle.std.specs.List.{AllByRecursion}
 use Rattle.std.specs.Option.{IfSome}
 use Rattle.c_tree.specs.Tree.{ObjectType, Int, Word, Byte, Struct, Named, VoidPointer, Pointer, Expr, Read, Number, WordNumber, Null, Address, Unary, Binary, Cast, Place, Variable, Pointee, Member, Index, Statement, Assign, Call, Malloc, Free, GetChar, PutChar, If, IfElse, While, Goto, Label, Return, Body, Empty, Then, body_of}
@@ -114,4 +114,4 @@ IsMain m = AllByRecursion IsVariable m.locals × IsBody (body_of m.body)
 -- a tree of the grammar: its tokens are a text, whatever its depth and whatever its names mean
 abbrev pub IsProgram : CProgram → Type 0
 IsProgram c = AllByRecursion IsName c.forwards × AllByRecursion IsDeclaration c.declarations × AllByRecursion IsVariable c.globals
-  × AllByRecursion IsPrototype c.prototypes × AllByRecursion IsFunction c.functions × IsMain c.main
+    × AllByRecursion IsPrototype c.prototypes × AllByRecursion IsFunction c.functions × IsMain c.main

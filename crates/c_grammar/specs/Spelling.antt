@@ -146,13 +146,13 @@ abbrev mutual
   spell_statement (Assign p a) rest = spell_place p (Sign mark.Assign ∷ spell_expr a (Sign mark.Semicolon ∷ rest))
   spell_statement (Call into callee all) rest = spell_into into (spell_callee callee (Sign mark.Open ∷ spell_listed spell_expr all (Sign mark.Close ∷ Sign mark.Semicolon ∷ rest)))
   spell_statement (Malloc p of) rest = spell_place p (Sign mark.Assign ∷ Quoted word.Malloc ∷ Sign mark.Open ∷ Quoted word.SizeOf ∷ Sign mark.Open
-    ∷ spell_type of (Sign mark.Close ∷ Sign mark.Close ∷ Sign mark.Semicolon ∷ rest))
+      ∷ spell_type of (Sign mark.Close ∷ Sign mark.Close ∷ Sign mark.Semicolon ∷ rest))
   spell_statement (Free a) rest = Quoted word.Free ∷ Sign mark.Open ∷ spell_expr a (Sign mark.Close ∷ Sign mark.Semicolon ∷ rest)
   spell_statement (GetChar p) rest = spell_place p (Sign mark.Assign ∷ Quoted word.GetChar ∷ Sign mark.Open ∷ Sign mark.Close ∷ Sign mark.Semicolon ∷ rest)
   spell_statement (PutChar a) rest = Quoted word.PutChar ∷ Sign mark.Open ∷ spell_expr a (Sign mark.Close ∷ Sign mark.Semicolon ∷ rest)
   spell_statement (If test a) rest = Quoted word.If ∷ Sign mark.Open ∷ spell_expr test (Sign mark.Close ∷ Sign mark.OpenBrace ∷ spell_body a (Sign mark.CloseBrace ∷ rest))
   spell_statement (IfElse test a b) rest = Quoted word.If ∷ Sign mark.Open ∷ spell_expr test (Sign mark.Close ∷ Sign mark.OpenBrace ∷ spell_body a (Sign mark.CloseBrace
-    ∷ Quoted word.Else ∷ Sign mark.OpenBrace ∷ spell_body b (Sign mark.CloseBrace ∷ rest)))
+      ∷ Quoted word.Else ∷ Sign mark.OpenBrace ∷ spell_body b (Sign mark.CloseBrace ∷ rest)))
   spell_statement (While test a) rest = Quoted word.While ∷ Sign mark.Open ∷ spell_expr test (Sign mark.Close ∷ Sign mark.OpenBrace ∷ spell_body a (Sign mark.CloseBrace ∷ rest))
   spell_statement (Goto l) rest = Quoted word.Goto ∷ Identifier l ∷ Sign mark.Semicolon ∷ rest
   spell_statement (Label l) rest = Identifier l ∷ Sign mark.Colon ∷ Sign mark.Semicolon ∷ rest
@@ -193,7 +193,7 @@ spell_struct s rest = Quoted word.Struct ∷ Identifier s.name ∷ Sign mark.Ope
 -- Typedef = "typedef" Ret "(" "*" Id ")" "(" Types ")" ";"
 abbrev pub spell_typedef : Spelling CTypedef
 spell_typedef t rest = Quoted word.Typedef ∷ spell_result t.result (Sign mark.Open ∷ Sign mark.Star ∷ Identifier t.name ∷ Sign mark.Close
-  ∷ Sign mark.Open ∷ spell_or_void spell_type t.parameters (Sign mark.Close ∷ Sign mark.Semicolon ∷ rest))
+    ∷ Sign mark.Open ∷ spell_or_void spell_type t.parameters (Sign mark.Close ∷ Sign mark.Semicolon ∷ rest))
 
 abbrev pub spell_declaration : Spelling CDeclaration
 spell_declaration (declared.Typedef t) rest = spell_typedef t rest
@@ -222,4 +222,4 @@ spell_main m rest = Quoted word.Int ∷ Quoted word.Main ∷ Sign mark.Open ∷ 
 -- {"struct" Id ";"} {Typedef | Struct} {Global} {Proto} {Func} Main
 abbrev pub program_tokens : CProgram → List Token
 program_tokens c = spell_all spell_forward c.forwards (spell_all spell_declaration c.declarations (spell_all spell_variable_line c.globals
-  (spell_all spell_prototype c.prototypes (spell_all spell_function c.functions (spell_main c.main [])))))
+    (spell_all spell_prototype c.prototypes (spell_all spell_function c.functions (spell_main c.main [])))))

@@ -1,5 +1,5 @@
 -- Which bytes are a text with which tree, and where the conditions fail.
-use Rattle.std.specs.Prelude.{◌≡◌, ◌⊎◌, ℕ, ◌+◌, false, List, [], ◌∷◌, ◌++◌, length, Option, Some, None, map, slice_get}
+use Rattle.std.specs.Prelude.{◌≡◌, ◌⊎◌, ℕ, ◌+◌, false, List, [], ◌∷◌, ◌++◌, length, Some, None, map, slice_get}
 use Rattle.std.specs.List.{Contains}
 use Rattle.c_tree.specs.declared.program.CProgram.{CProgram}
 use Rattle.c_grammar.specs.declared.fault.CTextKind.{CTextKind}
@@ -15,8 +15,9 @@ abbrev pub plain : List Placed → List Token
 plain tokens = map (λ (t : Placed). t.token) tokens
 
 -- the tokens are a text of the grammar with this tree, whatever its depth and whatever its names mean
-abbrev pub Spells : CProgram → List Token → Type 0
-Spells c tokens = IsProgram c × (program_tokens c ≡ tokens)
+pub record Spells (c : CProgram) (tokens : List Token) : Type 0 where
+  pub of_grammar : IsProgram c
+  pub spelled : program_tokens c ≡ tokens
 
 -- a tree of the subset: of the grammar, and with all further conditions
 pub record IsCTree (c : CProgram) : Type 0 where

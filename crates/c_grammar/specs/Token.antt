@@ -41,7 +41,7 @@ word_bytes word.Null = codes "NULL"
 
 abbrev pub words : List Word
 words = word.Struct ∷ word.Typedef ∷ word.Void ∷ word.Int64Type ∷ word.Uint64Type ∷ word.Unsigned ∷ word.Char ∷ word.Int ∷ word.Main ∷ word.Malloc ∷ word.SizeOf
-  ∷ word.Free ∷ word.GetChar ∷ word.PutChar ∷ word.If ∷ word.Else ∷ word.While ∷ word.Goto ∷ word.Return ∷ word.Int64 ∷ word.Uint64 ∷ word.Null ∷ []
+    ∷ word.Free ∷ word.GetChar ∷ word.PutChar ∷ word.If ∷ word.Else ∷ word.While ∷ word.Goto ∷ word.Return ∷ word.Int64 ∷ word.Uint64 ∷ word.Null ∷ []
 
 abbrev pub mark_bytes : Mark → List ℕ
 mark_bytes mark.OpenBrace = codes "{"
@@ -78,8 +78,8 @@ mark_bytes mark.Exclamation = codes "!"
 
 abbrev pub marks : List Mark
 marks = mark.OpenBrace ∷ mark.CloseBrace ∷ mark.Open ∷ mark.Close ∷ mark.OpenBracket ∷ mark.CloseBracket ∷ mark.Semicolon ∷ mark.Comma ∷ mark.Dot ∷ mark.Colon ∷ mark.Assign
-  ∷ mark.Plus ∷ mark.Minus ∷ mark.Star ∷ mark.Slash ∷ mark.Percent ∷ mark.Equal ∷ mark.NotEqual ∷ mark.Less ∷ mark.AtMost ∷ mark.Greater ∷ mark.AtLeast ∷ mark.AndAnd ∷ mark.OrOr
-  ∷ mark.Ampersand ∷ mark.Bar ∷ mark.Caret ∷ mark.ShiftLeft ∷ mark.ShiftRight ∷ mark.Tilde ∷ mark.Exclamation ∷ []
+    ∷ mark.Plus ∷ mark.Minus ∷ mark.Star ∷ mark.Slash ∷ mark.Percent ∷ mark.Equal ∷ mark.NotEqual ∷ mark.Less ∷ mark.AtMost ∷ mark.Greater ∷ mark.AtLeast ∷ mark.AndAnd ∷ mark.OrOr
+    ∷ mark.Ampersand ∷ mark.Bar ∷ mark.Caret ∷ mark.ShiftLeft ∷ mark.ShiftRight ∷ mark.Tilde ∷ mark.Exclamation ∷ []
 
 -- ---- the forms
 
@@ -154,7 +154,7 @@ pub data Cut : ℕ → List ℕ → List Placed → List ℕ → Type 0 where
   nothing : (n : ℕ) (rest : List ℕ) → Cut n rest [] rest
   white : (n b : ℕ) (bytes : List ℕ) (tokens : List Placed) (rest : List ℕ) → IsTrue (is_white b) → Cut (n + 1) bytes tokens rest → Cut n (b ∷ bytes) tokens rest
   token : (n : ℕ) (front bytes : List ℕ) (t : Token) (tokens : List Placed) (rest : List ℕ)
-    → IsLongest front bytes t → Cut (n + length front) bytes tokens rest → Cut n (front ++ bytes) (placed t n ∷ tokens) rest
+      → IsLongest front bytes t → Cut (n + length front) bytes tokens rest → Cut n (front ++ bytes) (placed t n ∷ tokens) rest
 
 -- the text begins with the head lines and these tokens; the rest follows
 abbrev pub CutsTo : List ℕ → List Placed → List ℕ → Type 0

@@ -1,12 +1,11 @@
 -- The types that are declared above a place, and the number of cells of a type.
-use Rattle.std.specs.Prelude.{ℕ, ◌*◌, Bool, true, false, List, [], ◌∷◌, ◌++◌, Option, Some, None, map}
+use Rattle.std.specs.Prelude.{ℕ, ◌*◌, true, false, List, [], ◌∷◌, ◌++◌, map}
 use Rattle.std.specs.List.{fold, sum_by}
 use Rattle.std.specs.Option.{unwrap_or}
 use Rattle.std.specs.Str.{bytes_eq}
-use Rattle.c_tree.specs.Tree.{ObjectType, Int, Word, Byte, Struct, Named, VoidPointer, Pointer}
+use Rattle.c_tree.specs.Tree.{ObjectType, Struct}
 use Rattle.c_tree.specs.declared.program.CMember.{CMember}
 use Rattle.c_tree.specs.declared.program.CStruct.{CStruct}
-use Rattle.c_tree.specs.declared.program.CTypedef.{CTypedef}
 use Rattle.c_tree.specs.declared.program.CDeclaration.{CDeclaration}
 use Rattle.c_tree.specs.declared.program.CDeclaration.TheVariants as declared
 use Rattle.c_tree.specs.declared.program.CProgram.{CProgram}

@@ -34,8 +34,8 @@
 //! | the word `main` | it stands in `program_tokens`; its fault is in `Faults` |
 //! | which fault may be named at which place | `Faults bytes kind place` in `specs/Text.antt` |
 //!
-//! That bytes have at most one tree is proved in `laws`. The lemmas of `proofs/` are open to other
-//! crates: `Longest` says which front of the bytes is the longest token, by the next byte, `Spelled`
+//! That bytes have at most one tree, and that each demand stands at the token of which it speaks, is
+//! proved in `laws`. The lemmas of `proofs/` are open to other crates: `Longest` says which front of the bytes is the longest token, by the next byte, `Spelled`
 //! that what is spelled before other tokens is what is spelled alone and then those, and `Hold` how
 //! demands of parts make those of the whole. Worked examples compute: `Examples` for tokens,
 //! `TextExamples` for each condition, met and failed, and `FaultExamples` for a whole text and faults.
