@@ -9,6 +9,7 @@ pub mod Longest
 pub mod Reading
 pub mod ReadingProgram
 pub mod ReadingStatement
+pub mod NoFaults
 pub mod ReadsExpr
 pub mod ReadsList
 pub mod ReadsProgram

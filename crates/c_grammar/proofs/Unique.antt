@@ -4,12 +4,12 @@ use Rattle.std.proofs.lemmas.List.{append_cancel_left}
 use Rattle.c_grammar.specs.Token.{Token, Placed, placed, form, form_by, is_white, Cut, nothing, white, token, head_lines, IsTokens}
 
 -- two ways to cut a list in two
-data Split (f g x y : List ℕ) : Type 0 where
+pub data Split (f g x y : List ℕ) : Type 0 where
   even : f ≡ g → x ≡ y → Split f g x y
   shorter : (more : List ℕ) → more ≢ [] → g ≡ f ++ more → x ≡ more ++ y → Split f g x y
   longer : (more : List ℕ) → more ≢ [] → f ≡ g ++ more → y ≡ more ++ x → Split f g x y
 
-split : (f g x y : List ℕ) → f ++ x ≡ g ++ y → Split f g x y
+pub split : (f g x y : List ℕ) → f ++ x ≡ g ++ y → Split f g x y
 split [] [] x y e = even refl e
 split [] (c ∷ g) x y e = shorter (c ∷ g) (λ q. cc) refl e
 split (c ∷ f) [] x y e = longer (c ∷ f) (λ q. cc) refl (sym e)
@@ -25,14 +25,14 @@ split (c ∷ f) (d ∷ g) x y e =
 white_is : (b : ℕ) → IsTrue (is_white b) → (b ≡ 9) ⊎ ((b ≡ 10) ⊎ (b ≡ 32))
 white_is b h = grind arith
 
-white_form : (b : ℕ) (more : List ℕ) → IsTrue (is_white b) → form_by b more ≡ None
+pub white_form : (b : ℕ) (more : List ℕ) → IsTrue (is_white b) → form_by b more ≡ None
 unfolding form_by
 white_form b more h = elim (white_is b h) [ inl e ↦ rw e refl | inr w ↦ elim w [ inl e ↦ rw e refl | inr e ↦ rw e refl ] ]
 
-some_none : {t : Token} {P : Type 0} → None ≡ Some t → P
+pub some_none : {t : Token} {P : Type 0} → None ≡ Some t → P
 some_none e = absurd cc
 
-some_same : {t u : Token} → Some t ≡ Some u → t ≡ u
+pub some_same : {t u : Token} → Some t ≡ Some u → t ≡ u
 some_same e = cc
 
 same_cut : {n m : ℕ} {x y ra rb : List ℕ} {a b : List Placed} → Cut n x a ra → Cut m y b rb → n ≡ m → x ≡ y → ra ≡ [] → rb ≡ [] → a ≡ b

@@ -5,7 +5,9 @@ use Rattle.c_tree.specs.declared.program.CProgram.{CProgram}
 use Rattle.c_grammar.specs.Token.{Token, Identifier, Numeral, Placed, IsTokens}
 use Rattle.c_grammar.specs.Spelling.{program_tokens}
 use Rattle.c_grammar.specs.Demands.{Demand, Level, Leads, Differs, Declared, Length, Cells, program_demands}
-use Rattle.c_grammar.specs.Text.{CText}
+use Rattle.c_grammar.specs.Text.{CText, Faults}
+use Rattle.c_grammar.specs.declared.fault.CTextKind.{CTextKind}
+use Rattle.c_grammar.specs.declared.fault.CTextKind.TheVariants.{TooDeep}
 
 -- bytes have at most one list of tokens
 abbrev pub TokensAreUnique : Type 0
@@ -35,3 +37,7 @@ Stands tokens d = (t : Token) × (slice_get tokens d.0 ≡ Some t) × Speaks d.1
 -- the demands of a tree stand at tokens of it
 abbrev pub DemandsStand : Type 0
 DemandsStand = (c : CProgram) → AllByRecursion (Stands (program_tokens c)) (program_demands c)
+
+-- A text has no fault, but for TooDeep, which speaks of other texts that begin as it does.
+abbrev pub TextsHaveNoFaults : Type 0
+TextsHaveNoFaults = (bytes : List ℕ) (c : CProgram) (kind : CTextKind) (place : ℕ) → CText bytes c → Faults bytes kind place → kind ≡ TooDeep
