@@ -5,6 +5,8 @@ mod FaultExamples
 mod NestingExamples
 mod TextExamples
 pub mod Hold
+pub mod Levels
+pub mod LevelsProgram
 pub mod Longest
 pub mod Reading
 pub mod ReadingProgram
