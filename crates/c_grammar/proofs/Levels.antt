@@ -1,22 +1,7 @@
 -- Levels rise by one: where a statement or expression of some level stands, there are ones of each lower level.
-use Rattle.std.proofs.Common.{◌≡◌, ◌⊎◌, ℕ, zero, suc, ◌+◌, ◌<◌, ◌≤◌, List, [], ◌∷◌, ◌++◌, length, Option, Some, None, refl, sym, ap, inl, inr, arith}
+use Rattle.std.proofs.Common.{◌≡◌, ◌⊎◌, ℕ, zero, suc, ◌≤◌, [], ◌∷◌, ◌++◌, ap, inl, inr, arith}
 use Rattle.std.specs.List.{Contains}
-use Rattle.c_tree.specs.Tree.{ObjectType, Int, Word, Byte, Struct, Named, VoidPointer, Pointer, Expr, Read, Number, WordNumber, Null, Address, Unary, Binary, Cast, Place, Variable, Pointee, Member, Index, Statement, Assign, Call, Malloc, Free, GetChar, PutChar, If, IfElse, While, Goto, Label, Return, Body, Empty, Then, body_of}
-use Rattle.c_tree.specs.declared.operators.CCast.{CCast}
-use Rattle.c_tree.specs.declared.operators.CCast.TheVariants as cast
-use Rattle.c_tree.specs.declared.statement.CCallee.{CCallee}
-use Rattle.c_tree.specs.declared.statement.CCallee.TheVariants.{Direct, Indirect}
-use Rattle.c_tree.specs.declared.program.CVariable.{CVariable}
-use Rattle.c_tree.specs.declared.program.CMember.{CMember}
-use Rattle.c_tree.specs.declared.program.CStruct.{CStruct}
-use Rattle.c_tree.specs.declared.program.CDeclaration.{CDeclaration}
-use Rattle.c_tree.specs.declared.program.CDeclaration.TheVariants as declared
-use Rattle.c_tree.specs.declared.program.CPrototype.{CPrototype}
-use Rattle.c_tree.specs.declared.program.CFunction.{CFunction}
-use Rattle.c_tree.specs.declared.program.CProgram.{CProgram}
-use Rattle.c_grammar.specs.Types.{Seen, see, seen_first, seen_last, Known, known, known_in_typedef, known_in_struct, named_cells, member_cells}
-use Rattle.c_grammar.specs.Spelling.{Spelling, count, spell_all, spell_next, spell_or_void, spell_type, spell_result, spell_cast, spell_expr, spell_place, spell_into, spell_callee, spell_statement, spell_body, spell_variable, spell_variable_line, spell_member, spell_forward, spell_declaration, spell_prototype, spell_function}
-use Rattle.c_grammar.specs.Demands.{Names, Demand, Level, Leads, Differs, Declared, Length, Cells, Demands, after, all_demands, listed_demands, same, pointed_demands, type_demands, result_demands, cast_demands, expr_demands, place_demands, into_demands, callee_demands, value_demands, own_labels, labels_in, labels_of, statement_demands, body_demands, variable_demands, and_variable, and_variables, length_demands, member_demands, and_member, forward_demands, and_name, declaration_demands, heading_demands, prototype_demands, block_demands, function_demands, and_function, main_demands, program_demands}
+use Rattle.c_grammar.specs.Demands.{Demand, Level, Leads, Differs, Declared, Length, Cells, Demands, after}
 
 -- a statement or expression of this level is among them
 abbrev pub HasLevel : ℕ → Demands → Type 0
@@ -86,7 +71,7 @@ empty = record { lower = λ l t h a b. h }
 
 pub both : {base : ℕ} {a b : Demands} → Falls base a → Falls base b → Falls base (a ++ b)
 both {base} {a} {b} f g = record {
-  lower = λ l t h low high. elim (in_either l a b h) [ inl x ↦ in_first t a b (f.lower l t x low high) | inr y ↦ in_second t a b (g.lower l t y low high) ]
+  lower = λ l t h low high. elim (in_either l a b h) [ inl x ↦ in_first t a b (f.lower l t x low high) | inr y ↦ in_second t a b (g.lower l t y low high) ];
 }
 
 pub later : {base : ℕ} {a : Demands} (m : ℕ) → Falls base a → Falls base (after m a)

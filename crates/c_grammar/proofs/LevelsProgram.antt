@@ -1,6 +1,5 @@
 -- The levels of a program rise by one.
-use Rattle.std.proofs.Common.{◌≡◌, ◌⊎◌, ℕ, zero, suc, ◌+◌, ◌<◌, ◌≤◌, List, [], ◌∷◌, ◌++◌, length, Option, Some, None, refl, sym, ap, inl, inr, arith}
-use Rattle.std.specs.List.{Contains}
+use Rattle.std.proofs.Common.{ℕ, suc, ◌+◌, List, [], ◌∷◌, ◌++◌, Option, Some, None}
 use Rattle.c_tree.specs.Tree.{ObjectType, Int, Word, Byte, Struct, Named, VoidPointer, Pointer, Expr, Read, Number, WordNumber, Null, Address, Unary, Binary, Cast, Place, Variable, Pointee, Member, Index, Statement, Assign, Call, Malloc, Free, GetChar, PutChar, If, IfElse, While, Goto, Label, Return, Body, Empty, Then, body_of}
 use Rattle.c_tree.specs.declared.operators.CCast.{CCast}
 use Rattle.c_tree.specs.declared.operators.CCast.TheVariants as cast
@@ -11,12 +10,11 @@ use Rattle.c_tree.specs.declared.program.CMember.{CMember}
 use Rattle.c_tree.specs.declared.program.CStruct.{CStruct}
 use Rattle.c_tree.specs.declared.program.CDeclaration.{CDeclaration}
 use Rattle.c_tree.specs.declared.program.CDeclaration.TheVariants as declared
-use Rattle.c_tree.specs.declared.program.CPrototype.{CPrototype}
 use Rattle.c_tree.specs.declared.program.CFunction.{CFunction}
 use Rattle.c_tree.specs.declared.program.CProgram.{CProgram}
 use Rattle.c_grammar.specs.Types.{Seen, see, seen_first, seen_last, Known, known, known_in_typedef, known_in_struct, named_cells, member_cells}
 use Rattle.c_grammar.specs.Spelling.{Spelling, count, spell_all, spell_next, spell_or_void, spell_type, spell_result, spell_cast, spell_expr, spell_place, spell_into, spell_callee, spell_statement, spell_body, spell_variable, spell_variable_line, spell_member, spell_forward, spell_declaration, spell_prototype, spell_function}
-use Rattle.c_grammar.specs.Demands.{Names, Demand, Level, Leads, Differs, Declared, Length, Cells, Demands, after, all_demands, listed_demands, same, pointed_demands, type_demands, result_demands, cast_demands, expr_demands, place_demands, into_demands, callee_demands, value_demands, own_labels, labels_in, labels_of, statement_demands, body_demands, variable_demands, and_variable, and_variables, length_demands, member_demands, and_member, forward_demands, and_name, declaration_demands, heading_demands, prototype_demands, block_demands, function_demands, and_function, main_demands, program_demands}
+use Rattle.c_grammar.specs.Demands.{Names, Differs, Cells, Demands, after, all_demands, listed_demands, same, pointed_demands, type_demands, result_demands, cast_demands, expr_demands, place_demands, into_demands, callee_demands, value_demands, own_labels, labels_in, labels_of, statement_demands, body_demands, variable_demands, and_variable, and_variables, length_demands, member_demands, and_member, forward_demands, and_name, declaration_demands, heading_demands, prototype_demands, block_demands, function_demands, and_function, program_demands}
 use Rattle.c_grammar.proofs.Levels.{Falls, empty, both, later, node}
 
 -- ---- types have no levels
@@ -115,7 +113,7 @@ mutual
   statement_falls k reached above level (If test a) = node (both (later 2 (expr_falls k (suc level) test)) (later (count spell_expr test + 4) (body_falls k (own_labels a ++ reached) above (suc level) a)))
   statement_falls k reached above level (IfElse test a b) =
       node (both (both (later 2 (expr_falls k (suc level) test)) (later (count spell_expr test + 4) (body_falls k (own_labels a ++ reached) above (suc level) a)))
-        (later (count spell_expr test + count spell_body a + 7) (body_falls k (own_labels b ++ reached) (above ++ labels_of a) (suc level) b)))
+      (later (count spell_expr test + count spell_body a + 7) (body_falls k (own_labels b ++ reached) (above ++ labels_of a) (suc level) b)))
   statement_falls k reached above level (While test a) = node (both (later 2 (expr_falls k (suc level) test)) (later (count spell_expr test + 4) (body_falls k (own_labels a ++ reached) above (suc level) a)))
   statement_falls k reached above level (Goto l) = node (record { lower = λ l t h a b. h })
   statement_falls k reached above level (Label l) = node (record { lower = λ l t h a b. h })
@@ -169,7 +167,7 @@ block_falls k above locals body =
 function_falls : (k : Known) (above : Names) (f : CFunction) → Falls 1 (function_demands k above f)
 function_falls k above f =
     both (heading_falls k above f.result f.name f.parameters)
-      (later (count spell_result f.result + count (spell_or_void spell_variable) f.parameters + 4) (block_falls k (and_variables [] f.parameters) f.locals f.body))
+    (later (count spell_result f.result + count (spell_or_void spell_variable) f.parameters + 4) (block_falls k (and_variables [] f.parameters) f.locals f.body))
 
 pub program_falls : (c : CProgram) → Falls 1 (program_demands c)
 program_falls c =

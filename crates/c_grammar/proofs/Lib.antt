@@ -5,6 +5,7 @@ mod FaultExamples
 mod NestingExamples
 mod TextExamples
 pub mod Hold
+pub mod FailuresFault
 pub mod Levels
 pub mod LevelsProgram
 pub mod Longest

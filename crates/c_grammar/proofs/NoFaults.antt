@@ -69,7 +69,7 @@ stuck (token n front v t us r l c) e f w formless = some_none (sym (formless fro
 no_stray_byte : (bytes : List ℕ) (place : ℕ) (tokens : List Placed) → IsTokens bytes tokens → NoTokenAt bytes place → ⊥
 no_stray_byte bytes place tokens cut (before, b, rest, to, w, formless, at) = let goes = goes_from bytes tokens before (b ∷ rest) cut to in stuck goes.cut refl refl w formless
 
-plain_both : (a b : List Placed) → plain (a ++ b) ≡ plain a ++ plain b
+pub plain_both : (a b : List Placed) → plain (a ++ b) ≡ plain a ++ plain b
 plain_both [] b = refl
 plain_both (t ∷ a) b = ap (λ l. t.token ∷ l) (plain_both a b)
 

@@ -1,11 +1,11 @@
 -- Laws of the definitions.
 use Rattle.std.specs.Prelude.{◌≡◌, ℕ, List, Some, slice_get}
-use Rattle.std.specs.List.{AllByRecursion}
+use Rattle.std.specs.List.{AllByRecursion, Contains}
 use Rattle.c_tree.specs.declared.program.CProgram.{CProgram}
 use Rattle.c_grammar.specs.Token.{Token, Identifier, Numeral, Placed, IsTokens}
 use Rattle.c_grammar.specs.Spelling.{program_tokens}
-use Rattle.c_grammar.specs.Demands.{Demand, Level, Leads, Differs, Declared, Length, Cells, program_demands}
-use Rattle.c_grammar.specs.Text.{CText, Faults}
+use Rattle.c_grammar.specs.Demands.{Demand, Level, Leads, Differs, Declared, Length, Cells, Holds, kind_of, program_demands}
+use Rattle.c_grammar.specs.Text.{CText, Spells, Faults, plain}
 use Rattle.c_grammar.specs.declared.fault.CTextKind.{CTextKind}
 use Rattle.c_grammar.specs.declared.fault.CTextKind.TheVariants.{TooDeep}
 
@@ -41,3 +41,8 @@ DemandsStand = (c : CProgram) → AllByRecursion (Stands (program_tokens c)) (pr
 -- A text has no fault, but for TooDeep, which speaks of other texts that begin as it does.
 abbrev pub TextsHaveNoFaults : Type 0
 TextsHaveNoFaults = (bytes : List ℕ) (c : CProgram) (kind : CTextKind) (place : ℕ) → CText bytes c → Faults bytes kind place → kind ≡ TooDeep
+
+-- where a demand of a tree fails, a text of the tree has a fault of its kind
+abbrev pub FailuresAreFaults : Type 0
+FailuresAreFaults = (bytes : List ℕ) (tokens : List Placed) (c : CProgram) (n : ℕ) (d : Demand) → IsTokens bytes tokens → Spells c (plain tokens)
+    → Contains (program_demands c) (n, d) → (Holds d → ⊥) → (place : ℕ) × Faults bytes (kind_of d) place

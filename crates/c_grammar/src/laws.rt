@@ -1,5 +1,5 @@
 //! Laws of the definitions. Each function does nothing, and its contract is the law.
-ghost use Rattle.c_grammar.specs.Laws.{TokensAreUnique, TreesAreUnique, TextsAreUnique, DemandsStand, TextsHaveNoFaults};
+ghost use Rattle.c_grammar.specs.Laws.{TokensAreUnique, TreesAreUnique, TextsAreUnique, DemandsStand, TextsHaveNoFaults, FailuresAreFaults};
 
 /// Bytes have at most one list of tokens.
 pub fn tokens_are_unique()
@@ -24,4 +24,9 @@ pub fn demands_stand()
 /// A text has no fault, but for `TooDeep`, which speaks of other texts that begin as it does.
 pub fn texts_have_no_faults()
     ensures { TextsHaveNoFaults }
+{}
+
+/// Where a demand of a tree fails, a text of the tree has a fault of its kind.
+pub fn failures_are_faults()
+    ensures { FailuresAreFaults }
 {}

@@ -35,13 +35,14 @@
 //! | which fault may be named at which place | `Faults bytes kind place` in `specs/Text.antt` |
 //!
 //! Proved in `laws`: bytes have at most one list of tokens and at most one tree; each demand stands at
-//! the token of which it speaks; and a text has no fault, but for `TooDeep`, which speaks of other
-//! texts that begin as it does.
+//! the token of which it speaks; where a demand fails, a fault of its kind may be named somewhere;
+//! and a text has no fault, but for `TooDeep`, which speaks of other texts that begin as it does.
 //!
 //! The lemmas of `proofs/` are open to other crates: `Longest` says which front of the bytes is the
 //! longest token, by the next byte; `Spelled` and `SpelledProgram` that what is spelled before other
 //! tokens is what is spelled alone, and then those; `Hold` how demands of parts make those of the
-//! whole; `NoFaults` that tokens cut from the front are the first of all. `Reading` to `ReadsProgram`
+//! whole; `NoFaults` that tokens cut from the front are the first of all; `Levels` that levels rise by
+//! one. `Reading` to `ReadsProgram`
 //! are a way back from tokens to the tree, by which the law on trees is proved. Worked examples
 //! compute: `Examples` for tokens, `TextExamples` for each condition, met and failed, `FaultExamples`
 //! for a whole text and for faults, and `NestingExamples` for what begins no text and for levels.
