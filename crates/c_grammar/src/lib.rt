@@ -42,10 +42,12 @@
 //! longest token, by the next byte; `Spelled` and `SpelledProgram` that what is spelled before other
 //! tokens is what is spelled alone, and then those; `Hold` how demands of parts make those of the
 //! whole; `NoFaults` that tokens cut from the front are the first of all; `Levels` that levels rise by
-//! one. `Reading` to `ReadsProgram`
-//! are a way back from tokens to the tree, by which the law on trees is proved. Worked examples
-//! compute: `Examples` for tokens, `TextExamples` for each condition, met and failed, `FaultExamples`
-//! for a whole text and for faults, and `NestingExamples` for what begins no text and for levels.
+//! one. `Reading` to `ReadsProgram` are a way back from tokens to the tree, by which the law on trees
+//! is proved.
+//!
+//! Worked examples compute: `Examples` for tokens, `TextExamples` for each condition, met and failed,
+//! `FaultExamples` for a whole text and for faults, `NestingExamples` for what begins no text and for
+//! levels.
 #![tactic(auto)]
 
 pub mod fault;
