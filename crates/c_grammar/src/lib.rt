@@ -14,25 +14,7 @@
 //! `kind_of` which fault it is where it is not. So a condition and the places that its fault may name
 //! are one definition.
 //!
-//! | What the subset asks | Where it is defined |
-//! |---|---|
-//! | the four head lines | `head_lines` and `CutsTo` in `specs/Token.antt` |
-//! | tokens are cut longest first, without gap or overlap, between white space of bytes 9, 10 and 32 | `form`, `IsLongest`, `is_white` and `Cut` there |
-//! | an identifier is a letter, then letters, digits and `_`, and no quoted word | `form` there, `IsName` in `specs/Grammar.antt` |
-//! | a number has no leading zero but `0` itself | `form` |
-//! | a number is below 2^63, under `UINT64_C` below 2^64 | `IsNumber` and `IsWordNumber` in `specs/Grammar.antt` |
-//! | each production of the grammar | `spell_expr`, `spell_statement` and so on in `specs/Spelling.antt`, `program_tokens` for the whole; a struct has a member by `IsStruct` |
-//! | some text of the grammar begins so, whatever its depth | `Begins` and `MayBegin` in `specs/Text.antt` |
-//! | at most 2,400 statements and expressions are nested | `Level` in `specs/Demands.antt`, demanded by `statement_demands` and `expr_demands` |
-//! | a goto leads to a label of its list, or of one around it | `Leads`, by `own_labels` |
-//! | structs have distinct names; one forward line a struct | `Differs`, by `struct_demands` and `forward_demands` |
-//! | globals, typedef names and functions have distinct names, also among each other | `Differs`, by `program_demands`; a function may be announced more than once |
-//! | members of a struct; locals with parameters; parameters of a line that announces; labels of a function | `Differs`, by `member_demands`, `block_demands`, `heading_demands` and `statement_demands` |
-//! | a struct that is named was declared or forwarded above, by value declared, in a typedef at least forwarded; a struct may hold a pointer to itself | `Declared`, by `known`, `known_in_typedef` and `known_in_struct` in `specs/Types.antt` |
-//! | a typedef name was declared above | `Declared` |
-//! | array lengths; cells of a type | `Length` and `Cells`, by `type_cells` in `specs/Types.antt` |
-//! | the word `main` | it stands in `program_tokens`; its fault is in `Faults` |
-//! | which fault may be named at which place | `Faults bytes kind place` in `specs/Text.antt` |
+//! docs/C_SUBSET.md names the definition for each rule.
 //!
 //! Proved in `laws`: bytes have at most one list of tokens and at most one tree; each demand stands at
 //! the token of which it speaks; where a demand fails, a fault of its kind may be named somewhere;
