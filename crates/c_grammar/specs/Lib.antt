@@ -1,0 +1,7 @@
+pub mod Demands
+pub mod Grammar
+pub mod Laws
+pub mod Spelling
+pub mod Text
+pub mod Token
+pub mod Types

@@ -1,0 +1,68 @@
+//! The words and marks that the grammar quotes.
+
+/// The words that the grammar quotes. No name is one of them.
+#[derive(Clone, Copy, Debug, PartialEq, Eq)]
+pub enum Word {
+    Struct,
+    Typedef,
+    Void,
+    /// `int64_t`
+    Int64Type,
+    /// `uint64_t`
+    Uint64Type,
+    Unsigned,
+    Char,
+    Int,
+    Main,
+    Malloc,
+    SizeOf,
+    Free,
+    GetChar,
+    PutChar,
+    If,
+    Else,
+    While,
+    Goto,
+    Return,
+    /// `INT64_C`
+    Int64,
+    /// `UINT64_C`
+    Uint64,
+    Null,
+}
+
+/// The marks that the grammar quotes.
+#[derive(Clone, Copy, Debug, PartialEq, Eq)]
+pub enum Mark {
+    OpenBrace,
+    CloseBrace,
+    Open,
+    Close,
+    OpenBracket,
+    CloseBracket,
+    Semicolon,
+    Comma,
+    Dot,
+    Colon,
+    Assign,
+    Plus,
+    Minus,
+    Star,
+    Slash,
+    Percent,
+    Equal,
+    NotEqual,
+    Less,
+    AtMost,
+    Greater,
+    AtLeast,
+    AndAnd,
+    OrOr,
+    Ampersand,
+    Bar,
+    Caret,
+    ShiftLeft,
+    ShiftRight,
+    Tilde,
+    Exclamation,
+}
