@@ -2,6 +2,7 @@
 
 ghost use Rattle.std.specs.Prelude.{◌≡◌, ◌++◌, OnOk, IfOk, codes, decimal};
 ghost use Rattle.c_tree.specs.Tree.{body_of};
+ghost use Rattle.c_grammar.specs.Text.{IsCTree, CText};
 ghost use Rattle.c_printer.specs.Text.{line, type_text, gap_text, result_text, body_text, all_text, more_text, list_text, variable_text, variable_line, length_text, member_line, forward_line, struct_text, typedef_line, declaration_text, head_text, prototype_line, block_text, function_text, main_text, head_lines, program_text};
 
 use crate::statement::{put_line, put_margin, put_statements};
@@ -281,9 +282,10 @@ fn put_head_lines(out: &mut Vec<u8>) -> Result<(), AllocError>
     put_line(out, 0, b"#include <stdlib.h>")
 }
 
-/// The text of a program, ended by byte 10.
+/// The text of a program, ended by byte 10. A tree of the subset is the only tree of its text.
 pub fn print(alloc: Global, program: &CProgram) -> Result<Vec<u8>, AllocError>
-    ensures { IfOk result (λ text. text.items ≡ program_text program.now) }
+    ensures layout { IfOk result (λ text. text.items ≡ program_text program.now) }
+    ensures read_back { IfOk result (λ text. IsCTree program.now → CText text.items program.now) }
 {
     let mut out = Vec::new(alloc);
     put_head_lines(&mut out)?;

@@ -1,0 +1,7 @@
+pub mod Numbers
+pub mod ReadBack
+pub mod ReadsDeclaration
+pub mod ReadsExpr
+pub mod ReadsStatement
+pub mod ReadsToken
+pub mod ReadsType
