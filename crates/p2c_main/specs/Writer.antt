@@ -2,7 +2,7 @@
 use Rattle.std.specs.Prelude.{ℕ, Option, Some, List, [], ◌∷◌, ◌++◌, map}
 use Rattle.c_tree.specs.Tree.{Statement, PutChar, Return, Number}
 use Rattle.c_tree.specs.declared.program.CProgram.{CProgram}
-use Rattle.c_printer.specs.Text.{program_text}
+use Rattle.c_grammar.specs.Text.{CText}
 use Rattle.p2c_outside.specs.Told.{Gains}
 use Rattle.p2c_main.specs.Written.{GainsPart}
 
@@ -20,10 +20,10 @@ writer_of bytes = record {
   main = record { locals = []; body = map put_of bytes ++ Return (Some (Number 0)) ∷ [] };
 }
 
--- what was written gained the C text that writes some bytes
+-- what was written gained a text of the C subset, the tree of which writes some bytes
 abbrev pub GainsWriter : Option (List ℕ) → Option (List ℕ) → Type 0
-GainsWriter old new = (bytes : List ℕ) × Gains old new (program_text (writer_of bytes))
+GainsWriter old new = (bytes text : List ℕ) × CText text (writer_of bytes) × Gains old new text
 
 -- what was written gained a proper prefix of such a text
 abbrev pub GainsWriterPart : Option (List ℕ) → Option (List ℕ) → Type 0
-GainsWriterPart old new = (bytes : List ℕ) × GainsPart old new (program_text (writer_of bytes))
+GainsWriterPart old new = (bytes text : List ℕ) × CText text (writer_of bytes) × GainsPart old new text

@@ -1,6 +1,7 @@
 //! The C program that writes given bytes.
 
 ghost use Rattle.std.specs.Prelude.{◌≡◌, IfOk, map};
+ghost use Rattle.c_grammar.specs.Text.{IsCTree};
 ghost use Rattle.p2c_main.specs.Writer.{put_of, writer_of};
 
 use c_tree::expr::CExpr;
@@ -11,7 +12,8 @@ use tree_lists::Items;
 
 /// One `putchar` for each byte, and `return INT64_C(0);`.
 pub fn writer(alloc: Global, bytes: &[u8]) -> Result<CProgram, AllocError>
-    ensures { IfOk result (λ program. program ≡ writer_of bytes.now) }
+    ensures value { IfOk result (λ program. program ≡ writer_of bytes.now) }
+    ensures tree { IfOk result IsCTree }
 {
     let mut body = puts(alloc, bytes)?;
     body.push(CStatement::return_of(Some(CExpr::number(0))))?;

@@ -8,7 +8,7 @@ ghost use Rattle.p2c_main.specs.Reading.{Lacks, outcome_of};
 ghost use Rattle.p2c_main.specs.Words.{file_asked, name_asked};
 ghost use Rattle.p2c_main.specs.Writer.{writer_of, GainsWriter, GainsWriterPart};
 ghost use Rattle.p2c_main.specs.Written.{GainsPart};
-ghost use Rattle.c_printer.specs.Text.{program_text};
+ghost use Rattle.c_grammar.specs.Text.{CText};
 
 use crate::literals::written_by;
 use crate::lower::writer;
@@ -109,7 +109,7 @@ fn refused(refusal: ReadRefusal) -> Outcome
 /// The C text, or `None` where the Pascal text is none of the form that is built.
 fn translated(alloc: Global, source: &[u8]) -> Result<Option<Vec<u8>>, AllocError>
     ensures { IfOk result (λ found. IfSome found (λ text.
-        (bytes : List ℕ) × (text.items ≡ program_text (writer_of bytes)))) }
+        (bytes : List ℕ) × CText text.items (writer_of bytes))) }
 {
     let Some(written) = written_by(alloc, source)? else {
         return Ok(None);
