@@ -1,0 +1,10 @@
+use Rattle.std.proofs.Common.{◌≡◌, ◌+◌, length}
+use Rattle.dialect_lexer.specs.Ends.{run}
+use Rattle.dialect_lexer.specs.Bytes.{is_in_line}
+use Rattle.dialect_lexer.proofs.ends.line_run.Given as goal
+
+abbrev pub invariant-loop-rest : goal.invariant-loop-rest
+invariant-loop-rest l = record { value : run is_in_line l.fn.bytes ≡ l.n + run is_in_line l.rest; within : l.n + length l.rest ≡ length l.fn.bytes }
+
+abbrev pub decreases-loop-rest : goal.decreases-loop-rest
+decreases-loop-rest l = length l.rest

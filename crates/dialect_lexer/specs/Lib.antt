@@ -1,0 +1,11 @@
+pub mod Dialects
+pub mod Bytes
+pub mod Words
+pub mod Values
+pub mod Ends
+pub mod Forms
+pub mod Patterns
+pub mod Cut
+pub mod FileTokens
+pub mod Tokens
+pub mod Laws
