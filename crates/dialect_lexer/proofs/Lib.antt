@@ -5,3 +5,5 @@ pub mod Numbers
 pub mod Pieces
 pub mod Cutting
 pub mod Unique
+pub mod Examples
+pub mod Spans

@@ -1,6 +1,6 @@
 //! Laws of the definitions. Each function does nothing, and its contract is the law.
 
-ghost use Rattle.dialect_lexer.specs.Laws.{TokensAreUnique, FaultsHaveNoTokens, FaultsAreUnique};
+ghost use Rattle.dialect_lexer.specs.Laws.{TokensAreUnique, FaultsHaveNoTokens, FaultsAreUnique, TokensAreInside};
 
 /// A text has at most one list of tokens.
 pub fn tokens_are_unique()
@@ -15,4 +15,9 @@ pub fn faults_have_no_tokens()
 /// A text fails at one place, with one kind.
 pub fn faults_are_unique()
     ensures { FaultsAreUnique }
+{}
+
+/// The places of tokens lie in their text.
+pub fn tokens_are_inside()
+    ensures { TokensAreInside }
 {}
