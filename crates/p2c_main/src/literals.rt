@@ -3,12 +3,11 @@
 ghost use Rattle.std.specs.Prelude.{◌<◌, ◌≤◌, length, IfOk, IfSome, OnOk, vec_len};
 
 use crate::scanner::{Token, next_token, skip_blanks};
+use p2c_text::LINE_END;
 use std::alloc::{AllocError, Global};
 
 /// The most bytes that one literal stands for.
 const LONGEST_LITERAL: usize = 4_194_304;
-
-const LINE_END: u8 = 10;
 
 const WORD_SYMBOLS: [&str; 35] = [
     "and",
