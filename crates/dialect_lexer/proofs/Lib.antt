@@ -7,3 +7,4 @@ pub mod Cutting
 pub mod Unique
 pub mod Examples
 pub mod Spans
+pub mod LineEnds

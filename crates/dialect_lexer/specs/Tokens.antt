@@ -32,9 +32,21 @@ pub data Cut (d : Dialect) : ℕ → List ℕ → List Placed → List ℕ → T
 
 -- ---- tokens
 
+abbrev pub line_ends : List ℕ → ℕ
+line_ends bytes = count_by (λ b. b == 10) bytes
+
 -- the line of the byte with this number
 abbrev pub line_at : List ℕ → ℕ → ℕ
-line_at bytes at = 1 + count_by (λ b. b == 10) (take at bytes)
+line_at bytes at = 1 + line_ends (take at bytes)
+
+abbrev pub is_separator : PieceKind → Bool
+is_separator piece_kind.Separator = true
+is_separator piece_kind.Part = false
+is_separator (piece_kind.Token kind) = false
+
+-- only separators are looked at
+abbrev pub line_ends_of : PieceKind → List ℕ → ℕ
+line_ends_of kind bytes = if is_separator kind then line_ends bytes else 0
 
 abbrev pub is_text : TokenKind → Bool
 is_text (token.Word w) = false

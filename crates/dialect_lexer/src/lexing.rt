@@ -1,6 +1,6 @@
 //! Cutting a text into tokens.
 
-ghost use Rattle.std.specs.Prelude.{◌≡◌, ◌≤◌, ◌==◌, ◌∷◌, length, count_by, OnOk, IfOk, IfErr, MatchResult, [], alloc_error, slice_range};
+ghost use Rattle.std.specs.Prelude.{◌≡◌, ◌≤◌, ◌∷◌, length, OnOk, IfOk, IfErr, MatchResult, [], alloc_error, slice_range};
 ghost use Rattle.dialect_lexer.specs.Patterns.{IsFront};
 ghost use Rattle.dialect_lexer.specs.Tokens as spec;
 
@@ -31,10 +31,21 @@ fn front(dialect: Dialect, first: u8, after: &[u8]) -> Result<Piece, Flaw>
 }
 
 fn line_ends(bytes: &[u8]) -> usize
-    ensures value { result ≡ count_by (λ byte. byte == 10) bytes.now }
+    ensures value { result ≡ spec.line_ends bytes.now }
     ensures within { result ≤ length bytes.now }
 {
     bytes.iter().filter(|byte| **byte == LINE_END).count()
+}
+
+/// The line ends of a piece of this kind. Only separators have any.
+fn line_ends_of(kind: PieceKind, bytes: &[u8]) -> usize
+    ensures value { result ≡ spec.line_ends_of kind bytes.now }
+    ensures within { result ≤ length bytes.now }
+{
+    match kind {
+        PieceKind::Separator => line_ends(bytes),
+        PieceKind::Part | PieceKind::Token(_) => 0,
+    }
 }
 
 fn put_token(tokens: &mut Vec<Token>, kind: TokenKind, span: Span) -> Result<(), AllocError>
@@ -121,7 +132,7 @@ pub fn tokens(
         };
         put_piece(&mut tokens, piece.kind, span).map_err(LexFault::Memory)?;
         let (taken, others) = rest.split_at(piece.len);
-        line += line_ends(taken) as u32;
+        line += line_ends_of(piece.kind, taken) as u32;
         start = end;
         rest = others;
     }

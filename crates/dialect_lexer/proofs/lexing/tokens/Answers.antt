@@ -1,7 +1,8 @@
 use Rattle.std.proofs.Common.{◌≡◌, true, Result, Ok, Err, [], take, drop, refl, sym, ap, subst, ◌∙◌, arith, rules}
-use Rattle.std.specs.Prelude.{◌==◌, count_by, is_ok, OnOk}
+use Rattle.std.specs.Prelude.{is_ok, OnOk}
 use Rattle.dialect_lexer.specs.Patterns.{IsPiece}
-use Rattle.dialect_lexer.specs.Tokens.{nothing}
+use Rattle.dialect_lexer.specs.Tokens.{nothing, line_ends, line_ends_of}
+use Rattle.dialect_lexer.proofs.LineEnds.{counted}
 use Rattle.dialect_lexer.proofs.Cutting.{first_and_after, turn, drop_then, line_then}
 use Rattle.dialect_lexer.proofs.lexing.tokens.Goals as goal
 
@@ -26,12 +27,13 @@ loop-rest-preserved c =
     let bytes = c.args.bytes.now in
     let n = c.in-Ok.piece.len in
     let lines = line_then bytes c.loop-rest.start n in
-    let counted = c.line_ends.ensures.value ∙ ap (λ w. count_by (λ b. b == 10) w) (c.split_at.ensures.front ∙ ap (λ w. take n w) i.rest) in
+    let all = c.line_ends_of.ensures.value ∙ ap (λ w. line_ends_of c.in-Ok.piece.kind w) c.split_at.ensures.front ∙ counted c.args.dialect c.loop-rest.rest.now n c.in-Ok.piece.kind here
+    ∙ ap (λ w. line_ends (take n w)) i.rest in
     record {
       cut = turn c.args.dialect c.args.file bytes c.loop-rest.rest.now c.split_at.result.1.now c.loop-rest.tokens.items c.put_piece.new.tokens.items c.loop-rest.start c.loop-rest.line n
           c.in-Ok.piece.kind i.cut i.within i.line here put c.split_at.ensures.back;
       rest = c.split_at.ensures.back ∙ ap (λ w. drop n w) i.rest ∙ drop_then c.loop-rest.start n bytes;
       within = search rules;
-      line = omega (arith, lines, counted, i.line);
+      line = omega (arith, lines, all, i.line);
       small = search rules;
     }
