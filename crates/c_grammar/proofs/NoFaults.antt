@@ -56,7 +56,7 @@ goes_from bytes a b rest (body, e, c) (other, f, d) = goes_on c d refl (append_c
 
 -- ---- each kind
 
-no_head_fault : (bytes : List ℕ) (place : ℕ) (tokens : List Placed) → IsTokens bytes tokens → HeadFails bytes place → ⊥
+pub no_head_fault : (bytes : List ℕ) (place : ℕ) (tokens : List Placed) → IsTokens bytes tokens → HeadFails bytes place → ⊥
 no_head_fault bytes place tokens (body, e, c) (front, wanted, lines, after, h, f, differs, at) =
     differs (lines ++ body) (append_cancel_left front after (wanted ∷ (lines ++ body)) (sym f ∙ e ∙ ap (λ l. l ++ body) h ∙ append_assoc front (wanted ∷ lines) body))
 
@@ -66,7 +66,7 @@ stuck {b = b} (white n b' v us r h c) e f w formless =
     let same : b' ≡ b = cc in let contra : true ≡ false = sym h ∙ ap is_white same ∙ w in absurd (cc)
 stuck (token n front v t us r l c) e f w formless = some_none (sym (formless front v (sym e)) ∙ l.is)
 
-no_stray_byte : (bytes : List ℕ) (place : ℕ) (tokens : List Placed) → IsTokens bytes tokens → NoTokenAt bytes place → ⊥
+pub no_stray_byte : (bytes : List ℕ) (place : ℕ) (tokens : List Placed) → IsTokens bytes tokens → NoTokenAt bytes place → ⊥
 no_stray_byte bytes place tokens cut (before, b, rest, to, w, formless, at) = let goes = goes_from bytes tokens before (b ∷ rest) cut to in stuck goes.cut refl refl w formless
 
 pub plain_both : (a b : List Placed) → plain (a ++ b) ≡ plain a ++ plain b

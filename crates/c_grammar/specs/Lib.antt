@@ -1,6 +1,7 @@
 pub mod Demands
 pub mod Grammar
 pub mod Laws
+pub mod Seen
 pub mod Spelling
 pub mod Text
 pub mod Token

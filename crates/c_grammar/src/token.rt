@@ -66,3 +66,13 @@ pub enum Mark {
     Tilde,
     Exclamation,
 }
+
+/// A token that lies in the bytes from which it was cut: a name by its bytes, a number by its digits,
+/// and a quoted word or mark. `token_of` of `specs/Seen.antt` says which token of the grammar it is.
+#[derive(Clone, Copy, Debug)]
+pub enum CToken<'a> {
+    Identifier(&'a [u8]),
+    Numeral(&'a [u8]),
+    Quoted(Word),
+    Sign(Mark),
+}

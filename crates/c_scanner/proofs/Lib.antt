@@ -1,0 +1,4 @@
+mod ByByte
+mod ByLetter
+mod Pieces
+mod Turns
