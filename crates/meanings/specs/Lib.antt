@@ -1,0 +1,10 @@
+pub mod Bounds
+pub mod Code
+pub mod Fresh
+pub mod Judgement
+pub mod Memory
+pub mod Names
+pub mod Outcomes
+pub mod Programs
+pub mod Values
+pub mod Worlds

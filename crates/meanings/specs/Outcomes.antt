@@ -1,0 +1,49 @@
+-- How a part of a program ends, and what a check gives.
+use Rattle.std.specs.Prelude.{ℕ, ℤ}
+use Rattle.meanings.specs.Worlds.{World}
+
+-- what raised: a runtime error by its number, or `escape`
+pub data Cause : Type 0 where
+  Error : ℕ → Cause
+  Escape : ℤ → Cause
+
+-- why a part did not end normally
+pub data Exit : Type 0 where
+  Goto : (activation label : ℕ) → Exit
+  Leave : (activation : ℕ) → Exit
+  Raise : Cause → Exit
+  Halt : (status : ℕ) → Exit
+  -- something undefined or disposed was read
+  ReadUndefined : Exit
+  -- the bound does not reach further
+  Cut : Exit
+
+pub data Outcome (X : Type 0) : Type 0 where
+  Normal : X → World → Outcome X
+  Exits : Exit → World → Outcome X
+
+abbrev pub world_of : {X : Type 0} → Outcome X → World
+world_of (Normal x w) = w
+world_of (Exits e w) = w
+
+abbrev pub and_then : {X Y : Type 0} → Outcome X → (X → World → Outcome Y) → Outcome Y
+and_then (Normal x w) f = f x w
+and_then (Exits e w) f = Exits e w
+
+-- a value, a runtime error in its place, or nothing where something undefined is met
+pub data Checked (X : Type 0) : Type 0 where
+  Passes : X → Checked X
+  Fails : (error : ℕ) → Checked X
+  Lacks : Checked X
+
+-- what is done with a value that passed
+infixl 10 ◌&>◌
+unfoldable pub ◌&>◌ : {X Y : Type 0} → Checked X → (X → Checked Y) → Checked Y
+Passes x &> f = f x
+Fails e &> f = Fails e
+Lacks &> f = Lacks
+
+abbrev pub checked : {X : Type 0} → Checked X → World → Outcome X
+checked (Passes x) w = Normal x w
+checked (Fails e) w = Exits (Raise (Error e)) w
+checked Lacks w = Exits ReadUndefined w
