@@ -1,0 +1,43 @@
+//! Constants.
+
+use crate::Identifier;
+use p2c_text::Span;
+use tree_lists::Items;
+
+/// The bytes for which a text stands.
+pub type TextBytes = Items<u8>;
+
+#[derive(Clone, Copy, Debug, PartialEq, Eq)]
+pub enum Sign {
+    Plus,
+    Minus,
+}
+
+#[derive(Debug, Drop)]
+pub enum Constant {
+    Number {
+        sign: Option<Sign>,
+        value: i64,
+        span: Span,
+    },
+    Name {
+        sign: Option<Sign>,
+        name: Identifier,
+        span: Span,
+    },
+    Text {
+        bytes: TextBytes,
+        span: Span,
+    },
+}
+
+/// A label of a `case` or of a variant: a value, or in Turbo and HP the values from the first to
+/// the last.
+#[derive(Debug, Drop)]
+pub struct CaseLabel {
+    pub first: Constant,
+    pub last: Option<Constant>,
+    pub span: Span,
+}
+
+pub type CaseLabels = Items<CaseLabel>;
