@@ -1,10 +1,10 @@
 -- The answers of a program at two bounds.
-use Rattle.std.proofs.Common.{◌≡◌, ℕ, ◌≤◌, List, [], ◌∷◌, map, refl, sym, ap, ◌∙◌, subst}
+use Rattle.std.proofs.Common.{◌≡◌, ℕ, ◌≤◌, List, [], ◌∷◌, map, subst}
 use Rattle.typed_tree.specs.declared.declarations.Routine.{Routine}
 use Rattle.typed_tree.specs.declared.declarations.Body.{Body}
 use Rattle.typed_tree.specs.declared.declarations.Typed.{Typed}
 use Rattle.meanings.specs.Code.{Answer, End, UndefinedAfter, CutAfter}
-use Rattle.meanings.specs.Bounds.{IsPrefix, EachRoutine, NoRoutine, OneRoutine, EachBlock, NoBlock, OneBlock, SteadyCode, output_of, entries_of, Keeps}
+use Rattle.meanings.specs.Bounds.{EachRoutine, NoRoutine, OneRoutine, EachBlock, NoBlock, OneBlock, SteadyCode, Keeps}
 use Rattle.meanings.proofs.Growth.{steady}
 use Rattle.meanings.proofs.SteadyCode.{bounds_agree}
 use Rattle.pascal_meaning.specs.Meaning.{routine_code, block_code, code, Pas}

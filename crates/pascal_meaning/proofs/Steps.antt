@@ -1,5 +1,5 @@
 -- A judgement that the combinators keep holds of each step, where it holds of its parts.
-use Rattle.std.proofs.Common.{◌≡◌, ℕ, ℤ, suc, List, [], ◌∷◌, ◌++◌, Bool, true, false, Option, Some, None}
+use Rattle.std.proofs.Common.{ℕ, ℤ, suc, List, [], ◌∷◌, Bool, Option, Some, None}
 use Rattle.typed_tree.specs.declared.types.Types.{Types}
 use Rattle.typed_tree.specs.declared.types.LabelRange.{LabelRange}
 use Rattle.typed_tree.specs.declared.declarations.Callee.{Callee}
@@ -12,10 +12,10 @@ use Rattle.typed_tree.specs.declared.operations.BinaryOp.TheVariants as binary
 use Rattle.typed_tree.specs.declared.operations.PredefCall.{PredefCall}
 use Rattle.typed_tree.specs.declared.operations.PredefCall.TheVariants as call
 use Rattle.typed_tree.specs.Fields.{Variant, Choice}
-use Rattle.meanings.specs.Values.{Tree, Undefined, Whole, SetOf, NilPointer, HeapNumber, ArrayOf, RecordOf, Trees, no_trees, tree, Reference, RoutineValue}
+use Rattle.meanings.specs.Values.{Tree, HeapNumber, Trees, no_trees, tree, Reference}
 use Rattle.meanings.specs.Worlds.{View}
 use Rattle.meanings.specs.Outcomes.{Exit, Cause, Checked}
-use Rattle.meanings.specs.Programs.{Passed, Setting, Heading, Prog, ◌>>=◌, ◌>>◌, pure, stop, choose, ask, check, change, print, handle, below, run_routine, turns, update, of_types, here, collect}
+use Rattle.meanings.specs.Programs.{Passed, Setting, Heading, Prog, ◌>>=◌, ◌>>◌, pure, stop, choose, ask, check, print, update, of_types, here, collect}
 use Rattle.meanings.specs.Judgement.{Judgement}
 use Rattle.pascal_meaning.specs.Places.{Guard, Spot, confirm, confirm_all, root_spot, guards_through, field_spot, Reach, InRange, ToLength, NoIndex, bounds_of, index_spot, read_spot, follow_spot, refer, store, store_copy, assign}
 use Rattle.pascal_meaning.specs.Input.{Taken, take_by, read_into, read_line, get_char}

@@ -1,5 +1,5 @@
 -- A judgement that the combinators keep holds of every expression and every statement.
-use Rattle.std.proofs.Common.{ℕ, List, [], ◌∷◌, map, Option, Some, None}
+use Rattle.std.proofs.Common.{List, [], ◌∷◌, map}
 use Rattle.typed_tree.specs.declared.expressions.TypedExpr as X
 use Rattle.typed_tree.specs.declared.expressions.TypedExpr.{TypedExpr, Row_of-Selector, Row_of-BinaryPart, Row_of-TypedArg, Row_of-SetElem}
 use Rattle.typed_tree.specs.declared.expressions.Selector.{Selector}

@@ -1,6 +1,5 @@
 -- The predefined calls, on operands that were evaluated.
-use Rattle.std.specs.Prelude.{ℕ, zero, suc, ◌+◌, ◌-◌, ℤ, pos, negsuc, neg_ℤ, ◌+ℤ◌, ◌-ℤ◌, ◌*ℤ◌, Bool, true, false, not, ◌&&◌, int_le, int_rem, unsigned_abs, List, [], ◌∷◌, ◌++◌, length, Option, Some, None, slice_set}
-use Rattle.p2c_text.specs.declared.dialect.Dialect.{Dialect}
+use Rattle.std.specs.Prelude.{ℕ, zero, suc, ℤ, pos, negsuc, neg_ℤ, ◌+ℤ◌, ◌-ℤ◌, ◌*ℤ◌, Bool, not, ◌&&◌, int_le, int_rem, unsigned_abs, List, [], ◌∷◌, ◌++◌, length, Option, Some, None, slice_set}
 use Rattle.typed_tree.specs.declared.types.Types.{Types}
 use Rattle.typed_tree.specs.declared.types.Host.{Host}
 use Rattle.typed_tree.specs.declared.types.Host.TheVariants.{Whole as WholeHost, Char, Bool as BoolHost, Enumeration}
@@ -13,18 +12,18 @@ use Rattle.typed_tree.specs.declared.declarations.Owner.TheVariants.{Program, Ro
 use Rattle.typed_tree.specs.declared.operations.PredefCall.{PredefCall}
 use Rattle.typed_tree.specs.declared.operations.PredefCall.TheVariants as call
 use Rattle.typed_tree.specs.Ranges.{type_at, Range, Hosted}
-use Rattle.meanings.specs.Values.{Tree, Undefined, Whole, NilPointer, HeapNumber, ArrayOf, Trees, no_trees, tree, Heap, AtIndex}
+use Rattle.meanings.specs.Values.{Tree, Undefined, Whole, NilPointer, HeapNumber, ArrayOf, Trees, no_trees, tree, Heap}
 use Rattle.meanings.specs.Worlds.{View}
 use Rattle.meanings.specs.Outcomes.{Escape, Leave, Raise, Halt, ReadUndefined, Checked, Passes, Fails, Lacks, ◌&>◌}
 use Rattle.meanings.specs.Programs.{Prog, ◌>>=◌, ◌>>◌, pure, stop, ask, check, print, update, of_types, here, collect}
 use Rattle.meanings.specs.Names.{enclosing}
-use Rattle.meanings.specs.Memory.{base_tree, solid, solid_at, tree_at, longer}
+use Rattle.meanings.specs.Memory.{base_tree, solid}
 use Rattle.meanings.specs.Fresh.{size_of, fresh}
 use Rattle.pascal_meaning.specs.Numbers.{unless_error, exact, in_range, of_bool, equal, number_of, whole}
-use Rattle.pascal_meaning.specs.Texts.{Text, Plain, text_of, length_of, read_text, read_texts, limited, making, made}
+use Rattle.pascal_meaning.specs.Texts.{Text, Plain, text_of, length_of, read_text, read_texts, making}
 use Rattle.pascal_meaning.specs.Places.{Spot, component, read_spot, store, store_copy, assign}
 use Rattle.pascal_meaning.specs.Input.{at_end, at_line_end, get_char, read_into, read_line}
-use Rattle.pascal_meaning.specs.Output.{width_of, written}
+use Rattle.pascal_meaning.specs.Output.{written}
 use Rattle.pascal_meaning.specs.TextCalls.{copied, inserted, deleted, part_of, position, without_spaces, trimmed_right, repeated, capital, valued}
 
 pub data Operand : Type 0 where

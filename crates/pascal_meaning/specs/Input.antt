@@ -1,5 +1,5 @@
 -- Text input: what each reading takes, and what is left.
-use Rattle.std.specs.Prelude.{ℕ, zero, suc, ◌+◌, ◌-◌, ◌*◌, ℤ, pos, neg_ℤ, Bool, true, false, ◌&&◌, ◌||◌, nat_eq, nat_lt, List, [], ◌∷◌, ◌++◌, Option, Some, None}
+use Rattle.std.specs.Prelude.{ℕ, zero, suc, ◌+◌, ◌-◌, ◌*◌, ℤ, pos, neg_ℤ, Bool, true, false, ◌&&◌, ◌||◌, nat_eq, nat_lt, List, [], ◌∷◌, Option, Some, None}
 use Rattle.p2c_text.specs.declared.dialect.Dialect.{Dialect}
 use Rattle.p2c_text.specs.declared.dialect.Dialect.TheVariants.{Turbo}
 use Rattle.typed_tree.specs.declared.types.Types.{Types}
@@ -8,9 +8,9 @@ use Rattle.typed_tree.specs.declared.types.PasType.{PasType}
 use Rattle.typed_tree.specs.declared.types.PasType.TheVariants.{Ordinal, DynString}
 use Rattle.typed_tree.specs.Ranges.{type_at}
 use Rattle.meanings.specs.Values.{Tree, Whole}
-use Rattle.meanings.specs.Outcomes.{Checked, Passes, Fails, Lacks, ◌&>◌}
+use Rattle.meanings.specs.Outcomes.{Checked, Passes, Fails, ◌&>◌}
 use Rattle.meanings.specs.Programs.{Prog, ◌>>=◌, ◌>>◌, ask, check, update}
-use Rattle.pascal_meaning.specs.Numbers.{unless_error, between, host_range, of_bool}
+use Rattle.pascal_meaning.specs.Numbers.{unless_error, between, host_range}
 use Rattle.pascal_meaning.specs.Places.{Spot, assign}
 use Rattle.pascal_meaning.specs.Texts.{made}
 

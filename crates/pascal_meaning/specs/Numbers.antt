@@ -1,8 +1,8 @@
 -- Whole numbers: their range of 64 bits, operators, bits and decimal digits.
-use Rattle.std.specs.Prelude.{ℕ, zero, suc, ◌+◌, ◌-◌, ◌/◌, ◌%◌, ◌^◌, ℤ, pos, negsuc, neg_ℤ, ◌+ℤ◌, ◌-ℤ◌, ◌*ℤ◌, Bool, true, false, not, ◌&&◌, ◌||◌, nat_lt, int_lt, int_le, int_div, int_rem, unsigned_abs, bit_and, bit_or, List, [], ◌∷◌, Option, Some, None}
+use Rattle.std.specs.Prelude.{ℕ, zero, suc, ◌+◌, ◌-◌, ◌/◌, ◌%◌, ◌^◌, ℤ, pos, negsuc, ◌+ℤ◌, ◌-ℤ◌, ◌*ℤ◌, Bool, true, false, not, ◌&&◌, nat_lt, int_lt, int_le, int_div, int_rem, unsigned_abs, bit_and, bit_or, List, [], ◌∷◌, Option, Some, None}
 use Rattle.std.specs.Int.Bits.{bit_xor}
 use Rattle.p2c_text.specs.declared.dialect.Dialect.{Dialect}
-use Rattle.p2c_text.specs.declared.dialect.Dialect.TheVariants.{Iso, Turbo, Ucsd, Hp}
+use Rattle.p2c_text.specs.declared.dialect.Dialect.TheVariants.{Iso, Hp}
 use Rattle.typed_tree.specs.declared.operations.BinaryOp.{BinaryOp}
 use Rattle.typed_tree.specs.declared.operations.BinaryOp.TheVariants.{Add, Sub, Mul, Div, Mod, BitAnd, BitOr, BitXor, Shl, Shr, Equal, Unequal, Less, Greater, LessEq, GreaterEq}
 use Rattle.meanings.specs.Values.{Tree, Whole}

@@ -1,13 +1,12 @@
 -- Text output: the bytes that a written value gives.
-use Rattle.std.specs.Prelude.{ℕ, ◌-◌, ℤ, pos, Bool, true, false, int_lt, unsigned_abs, min, List, [], ◌∷◌, ◌++◌, length, take, replicate, Option, Some, None}
+use Rattle.std.specs.Prelude.{ℕ, ◌-◌, ℤ, pos, Bool, true, false, int_lt, unsigned_abs, min, List, [], ◌∷◌, ◌++◌, length, replicate, Option, Some, None}
 use Rattle.p2c_text.specs.declared.dialect.Dialect.{Dialect}
 use Rattle.p2c_text.specs.declared.dialect.Dialect.TheVariants.{Turbo}
-use Rattle.typed_tree.specs.declared.types.Types.{Types}
-use Rattle.typed_tree.specs.declared.types.Host.TheVariants.{Whole as WholeHost, Char, Bool as BoolHost, Enumeration}
+use Rattle.typed_tree.specs.declared.types.Host.TheVariants.{Whole as WholeHost, Bool as BoolHost}
 use Rattle.typed_tree.specs.declared.types.PasType.{PasType}
 use Rattle.typed_tree.specs.declared.types.PasType.TheVariants.{Ordinal}
-use Rattle.meanings.specs.Values.{Tree, Whole, Trees}
-use Rattle.meanings.specs.Outcomes.{Checked, Passes, Fails, Lacks, ◌&>◌}
+use Rattle.meanings.specs.Values.{Tree, Whole}
+use Rattle.meanings.specs.Outcomes.{Checked, Passes, ◌&>◌}
 use Rattle.pascal_meaning.specs.Numbers.{unless_error, decimal, holds}
 use Rattle.pascal_meaning.specs.Texts.{Text, Plain, text_of, length_of, read_cells, cells_of, cells}
 

@@ -1,5 +1,5 @@
 -- Places: how they are selected, read, referred to and stored into, with the checks of variants.
-use Rattle.std.specs.Prelude.{ℕ, zero, suc, ◌-ℤ◌, ℤ, pos, Bool, true, false, ◌&&◌, nat_eq, int_le, unsigned_abs, List, [], ◌∷◌, ◌++◌, Option, Some, None}
+use Rattle.std.specs.Prelude.{ℕ, suc, ◌-ℤ◌, ℤ, pos, Bool, true, false, ◌&&◌, nat_eq, int_le, unsigned_abs, List, [], ◌∷◌, ◌++◌, Option, Some, None}
 use Rattle.p2c_text.specs.declared.dialect.Dialect.{Dialect}
 use Rattle.p2c_text.specs.declared.dialect.Dialect.TheVariants.{Turbo}
 use Rattle.typed_tree.specs.declared.types.Types.{Types}
@@ -11,10 +11,10 @@ use Rattle.typed_tree.specs.declared.expressions.Root.{Root}
 use Rattle.typed_tree.specs.declared.expressions.Root.TheVariants as root
 use Rattle.typed_tree.specs.Ranges.{type_at, Range}
 use Rattle.typed_tree.specs.Fields.{Variant, Choice, variants_around, tag_choice}
-use Rattle.meanings.specs.Values.{Tree, Undefined, Whole, SetOf, NilPointer, HeapNumber, ArrayOf, Heap, Step, AtIndex, AtField, Reference}
+use Rattle.meanings.specs.Values.{Tree, Undefined, Whole, SetOf, NilPointer, HeapNumber, ArrayOf, Heap, AtIndex, AtField, Reference}
 use Rattle.meanings.specs.Worlds.{View}
 use Rattle.meanings.specs.Outcomes.{ReadUndefined, Checked, Passes, Fails, Lacks, ◌&>◌}
-use Rattle.meanings.specs.Programs.{Setting, Prog, ◌>>=◌, ◌>>◌, pure, stop, choose, ask, check, change, update, of_types}
+use Rattle.meanings.specs.Programs.{Setting, Prog, ◌>>=◌, ◌>>◌, pure, stop, choose, ask, check, update, of_types}
 use Rattle.meanings.specs.Names.{find_name}
 use Rattle.meanings.specs.Memory.{base_tree, tree_at, stored, kept, solid_at, slot_place, longer}
 use Rattle.meanings.specs.Fresh.{fresh}

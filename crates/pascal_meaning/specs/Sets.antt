@@ -1,9 +1,9 @@
 -- Sets, as 256 truth values.
-use Rattle.std.specs.Prelude.{ℕ, zero, suc, ◌+◌, ◌-ℤ◌, ℤ, pos, Bool, true, false, not, ◌&&◌, ◌||◌, int_le, int_lt, unsigned_abs, List, [], ◌∷◌, ◌++◌, length, replicate, Option, Some, None}
+use Rattle.std.specs.Prelude.{ℕ, zero, suc, ◌+◌, ◌-ℤ◌, ℤ, pos, Bool, true, false, not, ◌&&◌, ◌||◌, int_lt, unsigned_abs, List, [], ◌∷◌, replicate, Option, Some, None}
 use Rattle.typed_tree.specs.declared.operations.BinaryOp.{BinaryOp}
 use Rattle.typed_tree.specs.declared.operations.BinaryOp.TheVariants.{Union, Difference, Intersection, Equal, Unequal, LessEq, GreaterEq}
 use Rattle.meanings.specs.Values.{Tree, Whole, SetOf}
-use Rattle.meanings.specs.Outcomes.{Checked, Passes, Fails, Lacks, ◌&>◌}
+use Rattle.meanings.specs.Outcomes.{Checked, Passes, Lacks, ◌&>◌}
 use Rattle.pascal_meaning.specs.Numbers.{unless_error, between, in_range, of_bool}
 
 abbrev pub members : ℤ × ℤ

@@ -1,5 +1,5 @@
 -- The steps of expressions and statements, on the meanings of their parts.
-use Rattle.std.specs.Prelude.{ℕ, ℤ, pos, neg_ℤ, ◌+ℤ◌, ◌-ℤ◌, Bool, true, false, not, ◌&&◌, nat_eq, int_le, int_lt, List, [], ◌∷◌, Option, Some, None}
+use Rattle.std.specs.Prelude.{ℕ, ℤ, pos, neg_ℤ, ◌+ℤ◌, ◌-ℤ◌, Bool, true, false, not, ◌&&◌, nat_eq, int_le, List, [], ◌∷◌, Option, Some, None}
 use Rattle.p2c_text.specs.declared.dialect.Dialect.{Dialect}
 use Rattle.p2c_text.specs.declared.dialect.Dialect.TheVariants.{Iso, Hp}
 use Rattle.typed_tree.specs.declared.types.Types.{Types}
@@ -16,10 +16,10 @@ use Rattle.typed_tree.specs.declared.operations.BinaryOp.{BinaryOp}
 use Rattle.typed_tree.specs.declared.operations.BinaryOp.TheVariants as binary
 use Rattle.typed_tree.specs.Ranges.{type_at, Range}
 use Rattle.meanings.specs.Values.{Tree, Undefined, Whole, SetOf, NilPointer, HeapNumber, Reference, RoutineValue}
-use Rattle.meanings.specs.Worlds.{Slot, Holds, Refers, Calls, View}
-use Rattle.meanings.specs.Outcomes.{Cause, Error, Escape, Exit, Goto, Raise, ReadUndefined, Checked, Passes, Fails, Lacks, ◌&>◌}
-use Rattle.meanings.specs.Programs.{Passed, Setting, Heading, Prog, ◌>>=◌, ◌>>◌, pure, stop, choose, ask, check, update, of_types, here, collect, handle, below, run_routine, turns}
-use Rattle.meanings.specs.Names.{find_name, enclosing, with_slot, contains, block_of, label_owner}
+use Rattle.meanings.specs.Worlds.{Slot, Refers, Calls}
+use Rattle.meanings.specs.Outcomes.{Cause, Error, Escape, Exit, Goto, Raise, ReadUndefined, Checked, Passes, Fails, Lacks}
+use Rattle.meanings.specs.Programs.{Passed, Setting, Heading, Prog, ◌>>=◌, ◌>>◌, pure, stop, choose, ask, check, update, here, collect, handle, below, run_routine, turns}
+use Rattle.meanings.specs.Names.{find_name, with_slot, contains, block_of, label_owner}
 use Rattle.meanings.specs.Memory.{solid}
 use Rattle.pascal_meaning.specs.Numbers.{exact, in_range, on_numbers, of_bool, equal, number_of, holds, whole}
 use Rattle.pascal_meaning.specs.Sets.{on_sets, is_member, with_member, with_members}

@@ -1,6 +1,6 @@
 -- The calls on texts, on the bytes that were read.
-use Rattle.std.specs.Prelude.{ℕ, zero, suc, ◌+◌, ◌-◌, ◌*◌, ◌-ℤ◌, ◌+ℤ◌, ◌*ℤ◌, ℤ, pos, Bool, true, false, ◌&&◌, nat_eq, nat_lt, nat_le, int_lt, int_le, unsigned_abs, List, [], ◌∷◌, ◌++◌, length, take, drop, reverse, Option, Some, None}
-use Rattle.meanings.specs.Outcomes.{Checked, Passes, Fails, Lacks, ◌&>◌}
+use Rattle.std.specs.Prelude.{ℕ, zero, suc, ◌-◌, ◌-ℤ◌, ◌+ℤ◌, ◌*ℤ◌, ℤ, pos, Bool, true, false, ◌&&◌, nat_eq, int_lt, int_le, unsigned_abs, List, [], ◌∷◌, ◌++◌, length, take, drop, reverse}
+use Rattle.meanings.specs.Outcomes.{Checked, Passes, ◌&>◌}
 use Rattle.pascal_meaning.specs.Numbers.{unless_error, between, host_range}
 use Rattle.pascal_meaning.specs.Input.{is_digit}
 

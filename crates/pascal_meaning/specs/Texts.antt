@@ -1,14 +1,13 @@
 -- Texts: which cells are read and in which order, comparison, and stores into dynamic strings.
-use Rattle.std.specs.Prelude.{ℕ, zero, suc, ◌+◌, ◌-◌, ℤ, pos, Bool, true, false, not, ◌||◌, nat_eq, nat_lt, nat_le, unsigned_abs, List, [], ◌∷◌, ◌++◌, length, take, min, Option, Some, None}
+use Rattle.std.specs.Prelude.{ℕ, zero, suc, pos, Bool, true, false, nat_lt, nat_le, unsigned_abs, List, [], ◌∷◌, ◌++◌, length, take, Option, Some}
 use Rattle.p2c_text.specs.declared.dialect.Dialect.{Dialect}
-use Rattle.p2c_text.specs.declared.dialect.Dialect.TheVariants.{Iso, Turbo, Ucsd, Hp}
+use Rattle.p2c_text.specs.declared.dialect.Dialect.TheVariants.{Turbo}
 use Rattle.typed_tree.specs.declared.types.PasType.{PasType}
 use Rattle.typed_tree.specs.declared.types.PasType.TheVariants.{DynString}
 use Rattle.typed_tree.specs.declared.operations.BinaryOp.{BinaryOp}
 use Rattle.typed_tree.specs.declared.operations.BinaryOp.TheVariants.{Join, Equal, Unequal, Less, Greater, LessEq, GreaterEq}
-use Rattle.meanings.specs.Values.{Tree, Undefined, Whole, ArrayOf, Trees, no_trees, tree}
-use Rattle.meanings.specs.Outcomes.{Checked, Passes, Fails, Lacks, ◌&>◌}
-use Rattle.meanings.specs.Fresh.{copies}
+use Rattle.meanings.specs.Values.{Tree, Whole, ArrayOf, Trees, no_trees, tree}
+use Rattle.meanings.specs.Outcomes.{Checked, Passes, Lacks, ◌&>◌}
 use Rattle.pascal_meaning.specs.Numbers.{unless_error, of_bool}
 
 -- a text before its cells are read
