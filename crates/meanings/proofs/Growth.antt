@@ -1,8 +1,8 @@
 -- Which programs are steady: one lemma for each combinator.
-use Rattle.std.proofs.Common.{◌≡◌, ℕ, suc, List, [], ◌∷◌, ◌++◌, refl, sym, ap, ◌∙◌, append_assoc, Bool, true, false, Option, Some, None}
+use Rattle.std.proofs.Common.{◌≡◌, ℕ, List, [], ◌∷◌, ◌++◌, refl, sym, ap, ◌∙◌, append_assoc, Bool, true, false, Option, Some, None}
 use Rattle.typed_tree.specs.declared.types.Types.{Types}
-use Rattle.meanings.specs.Values.{Tree, RoutineValue}
-use Rattle.meanings.specs.Worlds.{Activation, World, View, view, changed}
+use Rattle.meanings.specs.Values.{RoutineValue}
+use Rattle.meanings.specs.Worlds.{Activation, World, View, view}
 use Rattle.meanings.specs.Outcomes.{Exit, Goto, Leave, Raise, Halt, ReadUndefined, Cut, Outcome, Normal, Exits, world_of, and_then, Checked, Passes, Fails, Lacks, checked}
 use Rattle.meanings.specs.Programs.{Passed, Run, Level, Setting, Prog, ◌>>=◌, ◌>>◌, pure, stop, choose, supplied, ask, check, change, print, record_entry, enter, caught, handled, handle, below, run_routine, turns, at_activation}
 use Rattle.meanings.specs.Bounds.{IsPrefix, Grows, Fits, Same, IsCut, RunFits, AtMost, Ends, Further, Both, Steady}
@@ -159,7 +159,7 @@ unfolding at_activation
 steady_at a m = record { by = λ l l' b s w. m.by l l' b _ w }
 
 -- that a program is steady is a judgement that the combinators keep
-pub steady : Judgement
+abbrev pub steady : Judgement
 steady = record {
   Holds = Steady;
   of_bind = steady_bind;

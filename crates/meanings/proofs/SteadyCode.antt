@@ -1,12 +1,12 @@
 -- Answers of steady code at two bounds.
-use Rattle.std.proofs.Common.{◌≡◌, ℕ, zero, suc, ◌≤◌, List, [], ◌∷◌, refl, Bool, true, false, nat_eq, Option, Some, None, arith}
+use Rattle.std.proofs.Common.{ℕ, zero, suc, ◌≤◌, List, [], refl, true, false, nat_eq, Option, Some, None, arith}
 use Rattle.typed_tree.specs.declared.declarations.VarDecl.{VarDecl}
 use Rattle.meanings.specs.Values.{RoutineValue}
 use Rattle.meanings.specs.Worlds.{World}
-use Rattle.meanings.specs.Outcomes.{Exit, Goto, Leave, Raise, Halt, ReadUndefined, Cut, Outcome, Normal, Exits, world_of}
-use Rattle.meanings.specs.Programs.{Passed, Level, Setting, Prog, at_activation}
-use Rattle.meanings.specs.Code.{RoutineCode, BlockCode, Code, routine_at, result_of, activation, activate, extend, level, initial_parts, whole_program, start, Answer, exit_answer, answer_of, answer}
-use Rattle.meanings.specs.Bounds.{IsPrefix, Grows, Fits, Same, IsCut, RunFits, AtMost, Ends, Further, Both, Steady, EachRoutine, NoRoutine, OneRoutine, EachBlock, NoBlock, OneBlock, SteadyCode, output_of, entries_of, Keeps, BoundsAgree}
+use Rattle.meanings.specs.Outcomes.{Goto, Leave, Raise, Halt, ReadUndefined, Cut, Outcome, Normal, Exits, world_of}
+use Rattle.meanings.specs.Programs.{Passed, Level}
+use Rattle.meanings.specs.Code.{RoutineCode, BlockCode, Code, routine_at, result_of, activation, activate, extend, level, initial_parts, whole_program, start, exit_answer, answer_of, answer}
+use Rattle.meanings.specs.Bounds.{IsPrefix, Grows, Fits, Same, IsCut, AtMost, Ends, Further, Both, Steady, EachRoutine, NoRoutine, OneRoutine, EachBlock, NoBlock, OneBlock, SteadyCode, output_of, entries_of, Keeps, BoundsAgree}
 use Rattle.meanings.proofs.Growth.{prefix_refl, grows_refl, steady_bind, steady_then, steady_pure, steady_ask, steady_entry, steady_enter, steady_handle, steady_at}
 
 steady_result : (r : Option VarDecl) → Steady (result_of r)

@@ -1,5 +1,5 @@
 -- A program in some language, and what it answers.
-use Rattle.std.specs.Prelude.{ℕ, zero, suc, pos, Bool, true, false, ◌&&◌, nat_eq, List, [], ◌∷◌, ◌++◌, length, Option, Some, None}
+use Rattle.std.specs.Prelude.{ℕ, zero, suc, pos, Bool, true, false, nat_eq, List, [], ◌∷◌, ◌++◌, length, Option, Some, None}
 use Rattle.typed_tree.specs.declared.types.Types.{Types}
 use Rattle.typed_tree.specs.declared.types.PasType.{PasType}
 use Rattle.typed_tree.specs.declared.types.PasType.TheVariants.{DynString}
@@ -7,10 +7,10 @@ use Rattle.typed_tree.specs.declared.declarations.Owner.TheVariants.{Program, Un
 use Rattle.typed_tree.specs.declared.declarations.VarDecl.{VarDecl}
 use Rattle.typed_tree.specs.declared.declarations.FormalSection.{FormalSection}
 use Rattle.typed_tree.specs.Ranges.{type_at}
-use Rattle.meanings.specs.Values.{Tree, Undefined, ArrayOf, tree, Reference, RoutineValue, Variable}
+use Rattle.meanings.specs.Values.{Tree, Undefined, ArrayOf, tree, RoutineValue, Variable}
 use Rattle.meanings.specs.Worlds.{Slot, Holds, Refers, Calls, Activation, World, View}
 use Rattle.meanings.specs.Outcomes.{Cause, Error, Escape, Exit, Goto, Leave, Raise, Halt, ReadUndefined, Cut, Outcome, Normal, Exits}
-use Rattle.meanings.specs.Programs.{Passed, ByValue, ByReference, ByRoutine, Run, Level, Outline, Setting, Prog, ◌>>=◌, ◌>>◌, pure, ask, here, enter, record_entry, handle, at_activation}
+use Rattle.meanings.specs.Programs.{Passed, ByValue, ByReference, ByRoutine, Run, Level, Outline, Setting, Prog, ◌>>=◌, ◌>>◌, pure, ask, enter, record_entry, handle, at_activation}
 use Rattle.meanings.specs.Memory.{base_tree, tree_at, kept, solid, solid_at}
 use Rattle.meanings.specs.Fresh.{new_variables}
 

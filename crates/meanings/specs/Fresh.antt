@@ -1,7 +1,6 @@
 -- New variables, whose scalars are undefined.
 use Rattle.std.specs.Prelude.{ℕ, zero, suc, ◌+◌, ℤ, ◌-ℤ◌, unsigned_abs, List, [], ◌∷◌, Option, Some, None}
 use Rattle.typed_tree.specs.declared.types.Types.{Types}
-use Rattle.typed_tree.specs.declared.types.PasType.{PasType}
 use Rattle.typed_tree.specs.declared.types.PasType.TheVariants as type
 use Rattle.typed_tree.specs.declared.declarations.VarDecl.{VarDecl}
 use Rattle.typed_tree.specs.Ranges.{type_at, Range}

@@ -1,7 +1,7 @@
 -- Value trees in a world: what is read and stored where.
-use Rattle.std.specs.Prelude.{ℕ, zero, suc, Bool, true, false, nat_eq, List, [], ◌∷◌, ◌++◌, Option, Some, None, slice_get, slice_set}
+use Rattle.std.specs.Prelude.{ℕ, zero, suc, true, false, nat_eq, List, [], ◌∷◌, ◌++◌, Option, Some, None, slice_get, slice_set}
 use Rattle.meanings.specs.Values.{Tree, Undefined, HeapNumber, ArrayOf, RecordOf, Trees, no_trees, tree, Fields, no_fields, field, Base, Variable, Heap, Step, AtIndex, AtField, Reference}
-use Rattle.meanings.specs.Worlds.{Slot, Holds, Refers, Calls, Activation, View}
+use Rattle.meanings.specs.Worlds.{Slot, Holds, Refers, Activation, View}
 use Rattle.meanings.specs.Names.{named, activation_at, with_slot}
 
 -- ---- inside a tree
@@ -72,6 +72,10 @@ tree_at v r = within r.path (base_tree v r.base)
 unfoldable pub with_base : View → Base → Tree → View
 with_base v (Variable a d) t = record v { activations = with_slot v.activations a d (Holds t) }
 with_base v (Heap h) t = record v { heap = slice_set v.heap h (Some t) }
+
+-- a store, where the variable is there
+unfoldable pub stored : View → Reference → Tree → Option View
+stored v r t = elim (base_tree v r.base) [ Some old ↦ Some (with_base v r.base (with_subtree r.path old t)) | None ↦ None ]
 
 unfoldable pub kept : {X : Type 0} → Option Tree → X → Option X
 kept None x = None

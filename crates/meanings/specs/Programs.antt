@@ -6,8 +6,8 @@ use Rattle.std.specs.Prelude.{ℕ, suc, Bool, true, false, List, [], ◌∷◌, 
 use Rattle.typed_tree.specs.declared.types.Types.{Types}
 use Rattle.typed_tree.specs.declared.declarations.Owner.{Owner}
 use Rattle.meanings.specs.Values.{Tree, Reference, RoutineValue}
-use Rattle.meanings.specs.Worlds.{Slot, Activation, World, View, view, changed}
-use Rattle.meanings.specs.Outcomes.{Exit, Goto, Leave, Raise, Halt, ReadUndefined, Cut, Error, Outcome, Normal, Exits, and_then, Checked, checked}
+use Rattle.meanings.specs.Worlds.{Activation, World, View, view, changed}
+use Rattle.meanings.specs.Outcomes.{Exit, Goto, Leave, Raise, Halt, ReadUndefined, Cut, Outcome, Normal, Exits, and_then, Checked, Passes, checked}
 
 -- an argument with which an activation begins
 pub data Passed : Type 0 where
@@ -123,19 +123,17 @@ at_activation a p = λ s l w. p (record { program = s.program; here = a }) l w
 
 -- ---- words that the combinators give
 
-unfoldable pub view_now : Prog View
-view_now = ask (λ s v. Some v)
-
 -- the running activation
 unfoldable pub here : Prog ℕ
 here = ask (λ s v. Some s.here)
 
--- what is there, or an undefined read
-unfoldable pub given : {X : Type 0} → Option X → Prog X
-given o = ask (λ s v. o)
+-- a change of what is seen, or an undefined read where there is nothing to change
+unfoldable pub update : (Types → View → Option View) → Prog (Unit {0})
+update f = ask (λ s v. f s.program.types v) >>= λ v. change v
 
-unfoldable pub error : {X : Type 0} → ℕ → Prog X
-error e = stop (Raise (Error e))
+-- what the types say
+unfoldable pub of_types : {X : Type 0} → (Types → X) → Prog X
+of_types f = check (λ types. Passes (f types))
 
 -- all of these, from left to right
 unfoldable pub collect : {X : Type 0} → List (Prog X) → Prog (List X)

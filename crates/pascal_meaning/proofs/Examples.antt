@@ -1,0 +1,12 @@
+pub mod Build
+pub mod Exits
+pub mod Heap
+pub mod InputAndOutput
+pub mod Longer
+pub mod Ordinals
+pub mod Routines
+pub mod Rows
+pub mod Sets
+pub mod Strings
+pub mod Structures
+pub mod Units

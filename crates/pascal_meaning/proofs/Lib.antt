@@ -1,0 +1,4 @@
+pub mod Bounds
+mod Examples
+pub mod Steps
+pub mod Trees

@@ -1,0 +1,12 @@
+pub mod Calls
+pub mod Input
+pub mod Laws
+pub mod Meaning
+pub mod Numbers
+pub mod Output
+pub mod Places
+pub mod Sets
+pub mod Statements
+pub mod TextCalls
+pub mod Texts
+pub mod Whole

@@ -1,0 +1,113 @@
+-- Whole numbers: their range of 64 bits, operators, bits and decimal digits.
+use Rattle.std.specs.Prelude.{ℕ, zero, suc, ◌+◌, ◌-◌, ◌/◌, ◌%◌, ◌^◌, ℤ, pos, negsuc, ◌+ℤ◌, ◌-ℤ◌, ◌*ℤ◌, Bool, true, false, not, ◌&&◌, nat_lt, int_lt, int_le, int_div, int_rem, unsigned_abs, bit_and, bit_or, List, [], ◌∷◌, Option, Some, None}
+use Rattle.std.specs.Int.Bits.{bit_xor}
+use Rattle.p2c_text.specs.declared.dialect.Dialect.{Dialect}
+use Rattle.p2c_text.specs.declared.dialect.Dialect.TheVariants.{Iso, Hp}
+use Rattle.typed_tree.specs.declared.operations.BinaryOp.{BinaryOp}
+use Rattle.typed_tree.specs.declared.operations.BinaryOp.TheVariants.{Add, Sub, Mul, Div, Mod, BitAnd, BitOr, BitXor, Shl, Shr, Equal, Unequal, Less, Greater, LessEq, GreaterEq}
+use Rattle.meanings.specs.Values.{Tree, Whole}
+use Rattle.meanings.specs.Outcomes.{Checked, Passes, Fails, Lacks, ◌&>◌}
+
+-- ---- ranges
+
+-- the value, or this error where the test fails
+unfoldable pub unless_error : {X : Type 0} → Bool → (error : ℕ) → X → Checked X
+unless_error true e x = Passes x
+unless_error false e x = Fails e
+
+unfoldable pub between : ℤ × ℤ → ℤ → Bool
+between r z = int_le r.0 z && int_le z r.1
+
+unfoldable pub equal : ℤ → ℤ → Bool
+equal x y = int_le x y && int_le y x
+
+-- what 64 bits hold
+abbrev pub host_range : ℤ × ℤ
+host_range = (negsuc 9223372036854775807, pos 9223372036854775807)
+
+-- a result in 64 bits, else 203
+unfoldable pub exact : ℤ → Checked ℤ
+exact z = unless_error (between host_range z) 203 z
+
+-- a value in a range, else 201; a type that is not ordinal has none
+unfoldable pub in_range : Option (ℤ × ℤ) → ℤ → Checked ℤ
+in_range None z = Passes z
+in_range (Some r) z = unless_error (between r z) 201 z
+
+-- ---- operators
+
+unfoldable pub quotient : ℤ → ℤ → Checked ℤ
+quotient x y = unless_error (not (equal y (pos 0))) 200 y &> λ y. exact (int_div x y)
+
+-- in 0..y-1
+unfoldable pub residue : ℤ → ℤ → ℤ
+residue x y = elim (int_lt (int_rem x y) (pos 0)) [ true ↦ int_rem x y +ℤ y | false ↦ int_rem x y ]
+
+unfoldable pub modulo : Dialect → ℤ → ℤ → Checked ℤ
+modulo Iso x y = unless_error (int_lt (pos 0) y) 200 (residue x y)
+modulo Hp x y = unless_error (int_lt (pos 0) y) 200 (residue x y)
+modulo _ x y = unless_error (not (equal y (pos 0))) 200 (int_rem x y)
+
+-- two's complement of 64 bits
+unfoldable pub word : ℤ → ℕ
+word (pos n) = n
+word (negsuc n) = 18446744073709551615 - n
+
+unfoldable pub of_word : ℕ → ℤ
+of_word n = elim (nat_lt n 9223372036854775808) [ true ↦ pos n | false ↦ negsuc (18446744073709551615 - n) ]
+
+unfoldable pub power_of_two : ℤ → ℤ
+power_of_two k = pos (2 ^ unsigned_abs k)
+
+unfoldable pub shifted_left : ℤ → ℤ → Checked ℤ
+shifted_left x k = unless_error (between (pos 0, pos 63) k) 203 k &> λ k. exact (x *ℤ power_of_two k)
+
+unfoldable pub shifted_right : ℤ → ℤ → Checked ℤ
+shifted_right x k = unless_error (between (pos 0, pos 63) k && int_le (pos 0) x) 203 k &> λ k. Passes (int_div x (power_of_two k))
+
+unfoldable pub of_bool : Bool → ℤ
+of_bool true = pos 1
+of_bool false = pos 0
+
+-- an operator on two ordinals; a truth value is 0 or 1
+unfoldable pub on_numbers : Dialect → BinaryOp → ℤ → ℤ → Checked ℤ
+on_numbers d Add x y = exact (x +ℤ y)
+on_numbers d Sub x y = exact (x -ℤ y)
+on_numbers d Mul x y = exact (x *ℤ y)
+on_numbers d Div x y = quotient x y
+on_numbers d Mod x y = modulo d x y
+on_numbers d BitAnd x y = Passes (of_word (bit_and (word x) (word y)))
+on_numbers d BitOr x y = Passes (of_word (bit_or (word x) (word y)))
+on_numbers d BitXor x y = Passes (of_word (bit_xor (word x) (word y)))
+on_numbers d Shl x y = shifted_left x y
+on_numbers d Shr x y = shifted_right x y
+on_numbers d Equal x y = Passes (of_bool (equal x y))
+on_numbers d Unequal x y = Passes (of_bool (not (equal x y)))
+on_numbers d Less x y = Passes (of_bool (int_lt x y))
+on_numbers d Greater x y = Passes (of_bool (int_lt y x))
+on_numbers d LessEq x y = Passes (of_bool (int_le x y))
+on_numbers d GreaterEq x y = Passes (of_bool (int_le y x))
+on_numbers d _ x y = Lacks
+
+-- ---- decimal
+
+-- the digits of a number of at most k digits, before these
+unfoldable pub digits : ℕ → ℕ → List ℕ → List ℕ
+digits zero n ds = ds
+digits (suc k) n ds = elim (nat_lt n 10) [ true ↦ (48 + n) ∷ ds | false ↦ digits k (n / 10) ((48 + n % 10) ∷ ds) ]
+
+unfoldable pub decimal : ℤ → List ℕ
+decimal (pos n) = digits 20 n []
+decimal (negsuc n) = 45 ∷ digits 20 (n + 1) []
+
+-- ---- values
+
+unfoldable pub number_of : Tree → ℤ
+number_of (Whole z) = z
+number_of _ = pos 0
+
+unfoldable pub holds : Tree → Bool
+holds t = not (equal (number_of t) (pos 0))
+
+unfoldable pub whole : Checked ℤ → Checked Tree
+whole c = c &> λ z. Passes (Whole z)

@@ -1,0 +1,32 @@
+//! The meaning of Pascal in four dialects, as definitions in `specs/`, and what holds of it.
+//!
+//! `Pas typed input n` is the answer of a typed program at the bound `n`: its end with output, status
+//! and routine entries, or what was written and entered before something undefined was read, or
+//! before the bound cut it off. `Whole.run` is the same under a name that unfolds every definition:
+//! a worked program is `refl` under `unfolding run`. The laws are the contracts of `laws`.
+//!
+//! | Definitions | What they say |
+//! |---|---|
+//! | `Meaning` | one line for each form of expression and statement; programs |
+//! | `Statements` | operators, set constructors, calls, sequences and gotos, loops, `case`, `with`, `try` |
+//! | `Calls` | the predefined calls, on operands that were evaluated |
+//! | `Places` | places while they are selected: variants and their tags, indexes, pointers; reading, references, stores |
+//! | `Input`, `Output` | what each reading takes and leaves; the bytes of a written value |
+//! | `Texts`, `TextCalls` | which cells of a text are read and in which order; the calls on texts |
+//! | `Numbers`, `Sets` | whole numbers of 64 bits and their decimals; sets as truth values |
+//!
+//! A check is a function of the types alone, `Types → Checked X`, and says which error it raises. What
+//! sees the world is made of the combinators of the crate `meanings`; `proofs/Steps` and
+//! `proofs/Trees` carry any judgement that these keep to every statement.
+//!
+//! # How trees are read
+//!
+//! - `input^` is a read of the place with the root `Input`, followed by the selector `Follow`, which
+//!   carries its type.
+//! - An argument of a predefined call is a `Reference` where the call changes it, `Written` where it
+//!   is written, as the number of Turbo's `str`, else a `Value`. The array from which `pack` copies is
+//!   a `Value`, and so is the one from which `unpack` copies. A file stands among no arguments.
+//! - What does not fit its type means the read of something undefined.
+#![tactic(auto)]
+
+pub mod laws;
