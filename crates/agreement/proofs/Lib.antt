@@ -1,0 +1,3 @@
+mod WriterRuns
+mod WriterMeans
+mod WritersAgree
