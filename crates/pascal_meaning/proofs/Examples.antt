@@ -4,6 +4,7 @@ pub mod Heap
 pub mod InputAndOutput
 pub mod Longer
 pub mod Ordinals
+pub mod Primitives
 pub mod Routines
 pub mod Rows
 pub mod Sets

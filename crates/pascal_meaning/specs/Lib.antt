@@ -5,6 +5,7 @@ pub mod Meaning
 pub mod Numbers
 pub mod Output
 pub mod Places
+pub mod Primitives
 pub mod Sets
 pub mod Statements
 pub mod TextCalls

@@ -30,3 +30,6 @@
 #![tactic(auto)]
 
 pub mod laws;
+mod operations;
+
+pub use operations::Primitive;
