@@ -6,5 +6,6 @@ pub mod Memory
 pub mod Names
 pub mod Outcomes
 pub mod Programs
+pub mod Temporaries
 pub mod Values
 pub mod Worlds
