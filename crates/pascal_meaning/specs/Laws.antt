@@ -9,7 +9,7 @@ use Rattle.meanings.specs.Temporaries.{Same}
 use Rattle.pascal_meaning.specs.declared.operations.Primitive.{Primitive}
 use Rattle.pascal_meaning.specs.Calls.{Operand}
 use Rattle.pascal_meaning.specs.Primitives.{perform}
-use Rattle.pascal_meaning.specs.Meaning.{value, exec, Pas}
+use Rattle.pascal_meaning.specs.Meaning.{Value, Exec, Pas}
 
 -- an answer that no greater bound changes
 abbrev pub IsFinal : Answer → Type 0
@@ -28,4 +28,4 @@ CutIsExtended = (p : Typed) (input : List ℕ) (m n : ℕ) (output entries : Lis
 
 -- neither expressions and statements nor primitives see or change the temporaries that passes make
 abbrev pub TemporariesAreUnseen : Type 0
-TemporariesAreUnseen = ((e : TypedExpr) → Same (value e)) × ((s : TypedStmt) → Same (exec s)) × ((p : Primitive) (operands : List Operand) → Same (perform p operands))
+TemporariesAreUnseen = ((e : TypedExpr) → Same (Value e)) × ((s : TypedStmt) → Same (Exec s)) × ((p : Primitive) (operands : List Operand) → Same (perform p operands))
