@@ -1,5 +1,6 @@
 pub mod Build
 pub mod Exits
+pub mod Further
 pub mod Heap
 pub mod InputAndOutput
 pub mod Longer

@@ -10,6 +10,7 @@
 //! | `Meaning` | one line for each form of expression and statement; programs |
 //! | `Statements` | operators, set constructors, calls, sequences and gotos, loops, `case`, `with`, `try` |
 //! | `Calls` | the predefined calls, on operands that were evaluated |
+//! | `Primitives` | what each `Primitive` does with its operands |
 //! | `Places` | places while they are selected: variants and their tags, indexes, pointers; reading, references, stores |
 //! | `Input`, `Output` | what each reading takes and leaves; the bytes of a written value |
 //! | `Texts`, `TextCalls` | which cells of a text are read and in which order; the calls on texts |
@@ -17,7 +18,9 @@
 //!
 //! A check is a function of the types alone, `Types → Checked X`, and says which error it raises. What
 //! sees the world is made of the combinators of the crate `meanings`; `proofs/Steps` and
-//! `proofs/Trees` carry any judgement that these keep to every statement.
+//! `proofs/Trees` carry any judgement that these keep to every primitive and every statement. The
+//! definitions go by the rows of which a tree consists; `proofs/ExpressionViews` and
+//! `proofs/StatementViews` say the same at the constructors as programs see them.
 //!
 //! # How trees are read
 //!
