@@ -15,7 +15,7 @@ use Rattle.pascal_meaning.specs.declared.operations.Primitive.{Primitive}
 use Rattle.pascal_meaning.specs.declared.operations.Primitive.TheVariants as p
 use Rattle.pascal_meaning.specs.Numbers.{unless_error, in_range, whole}
 use Rattle.pascal_meaning.specs.Sets.{with_member, with_members}
-use Rattle.pascal_meaning.specs.Texts.{text_of, length_of, byte_of}
+use Rattle.pascal_meaning.specs.Texts.{text_of, length_of, byte_of, read_text}
 use Rattle.pascal_meaning.specs.Places.{among, Reach, InRange, ToLength, NoIndex, reach_of, pointed, converted, assign}
 use Rattle.pascal_meaning.specs.Input.{read_into, read_line, look_ahead}
 use Rattle.pascal_meaning.specs.Calls.{Operand, Given, Target, Shown, tree_of, integer_of, counted, call_value, acted, write_one}
@@ -113,6 +113,7 @@ decided types (p.NotNil pointer) (x ∷ []) = a_pointer (tree_of x)
 decided types p.NoCase xs = Fails 204
 decided types (p.Selected r f) (x ∷ []) = whole (selects (innermost (variants_around (type_at types r) f)) (integer_of x))
 decided types (p.TextLength string) (x ∷ []) = counted (length_of (text_of (type_at types string) (tree_of x)))
+decided types (p.TextRead text) (x ∷ []) = read_text (text_of (type_at types text) (tree_of x)) &> λ bs. Passes Undefined
 decided types p.Include (x ∷ y ∷ []) = included (tree_of x) (integer_of y)
 decided types p.IncludeRange (x ∷ y ∷ z ∷ []) = range_included (tree_of x) (integer_of y) (integer_of z)
 decided types (p.Convert target text) (x ∷ []) = converted types target (type_at types text) (tree_of x)

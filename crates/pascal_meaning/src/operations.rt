@@ -8,7 +8,8 @@ use typed_tree::{BinaryOp, DeclId, TypeId};
 /// stand beside it here. The dialect is that of the program's types.
 ///
 /// `halt`, `escape` and the forms of `exit` are no primitives, since they are statements of every
-/// language below; what they check is `Range`. `concat` is `Join`, again and again.
+/// language below; what they check is `Range`. `concat` reads each text by `TextRead`, and then joins
+/// them by `Join`.
 #[derive(Clone, Copy, Debug, PartialEq, Eq)]
 pub enum Primitive {
     // Whole numbers: two of them, or one.
@@ -47,6 +48,10 @@ pub enum Primitive {
     /// The length of a dynamic string, which has to lie within its limit.
     TextLength {
         string: TypeId,
+    },
+    /// A text is read up to its length, as by a call that will use it; without an answer.
+    TextRead {
+        text: TypeId,
     },
     // Sets: two of them.
     Union,

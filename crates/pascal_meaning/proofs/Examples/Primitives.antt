@@ -141,6 +141,10 @@ length_past_the_limit : (w : World) → perform_in (types Turbo (DynString 3 ∷
 unfolding perform_in
 length_past_the_limit w = refl
 
+text_is_read : (w : World) → perform_in (types Turbo (DynString 3 ∷ [])) (p.TextRead own) (Given own (string (2 ∷ 65 ∷ 66 ∷ 0 ∷ [])) ∷ []) w ≡ gives (Undefined) w
+unfolding perform_in
+text_is_read w = refl
+
 union : (w : World) → perform_in (types Iso ([])) (p.Union) (Given own (SetOf (marked 1 2 empty_set)) ∷ Given own (SetOf (marked 2 3 empty_set)) ∷ []) w ≡ gives (SetOf (marked 1 4 empty_set)) w
 unfolding perform_in
 union w = refl
