@@ -1,5 +1,6 @@
 pub mod Bounds
 pub mod Code
+pub mod Errors
 pub mod Fresh
 pub mod Judgement
 pub mod Memory

@@ -9,6 +9,7 @@
 //! |---|---|
 //! | `Values` | value trees, references, routine values |
 //! | `Worlds` | activations, heap, input left, output, entries, escape code; what a program sees of them |
+//! | `Errors` | the numbers of runtime errors |
 //! | `Outcomes` | normal, goto, leave, raise, halt, undefined read, cut; what a check gives |
 //! | `Programs` | the combinators |
 //! | `Names`, `Memory`, `Fresh` | activations and names; reading and storing in value trees; new variables |
@@ -22,4 +23,9 @@
 //! law of bounds, `proofs/Simulation` that of temporaries.
 #![tactic(auto)]
 
+mod errors;
 pub mod laws;
+#[cfg(test)]
+mod tests;
+
+pub use errors::RuntimeError;

@@ -8,6 +8,7 @@ use Rattle.typed_tree.specs.declared.operations.PredefCall.{PredefCall}
 use Rattle.typed_tree.specs.declared.operations.PredefCall.TheVariants as call
 use Rattle.typed_tree.specs.Ranges.{type_at}
 use Rattle.typed_tree.specs.Fields.{Variant, Choice, variants_around}
+use Rattle.meanings.specs.declared.errors.RuntimeError.TheVariants.{NoLabel, InactiveVariant}
 use Rattle.meanings.specs.Values.{Tree, Undefined, SetOf, ArrayOf, tree}
 use Rattle.meanings.specs.Outcomes.{ReadUndefined, Checked, Passes, Fails, Lacks, ◌&>◌}
 use Rattle.meanings.specs.Programs.{Prog, ◌>>=◌, ◌>>◌, pure, stop, ask, check, print}
@@ -40,7 +41,7 @@ innermost (v ∷ w ∷ vs) = innermost (w ∷ vs)
 
 unfoldable pub selects : Option Variant → ℤ → Checked ℤ
 selects None z = Lacks
-selects (Some v) z = unless_error (among v.labels z) 205 z
+selects (Some v) z = unless_error (among v.labels z) InactiveVariant z
 
 unfoldable pub a_pointer : Tree → Checked Tree
 a_pointer t = pointed t &> λ h. Passes t
@@ -110,7 +111,7 @@ decided types p.BitNot (x ∷ []) = on_unary unary.BitNot (tree_of x)
 decided types (p.Range first last) (x ∷ []) = whole (in_range (Some (first, last)) (integer_of x))
 decided types (p.StringIndex string) (x ∷ i ∷ []) = whole (in_reach (reach_of types (type_at types string)) (tree_of x) (integer_of i))
 decided types (p.NotNil pointer) (x ∷ []) = a_pointer (tree_of x)
-decided types p.NoCase xs = Fails 204
+decided types p.NoCase xs = Fails NoLabel
 decided types (p.Selected r f) (x ∷ []) = whole (selects (innermost (variants_around (type_at types r) f)) (integer_of x))
 decided types (p.TextLength string) (x ∷ []) = counted (length_of (text_of (type_at types string) (tree_of x)))
 decided types (p.TextRead text) (x ∷ []) = read_text (text_of (type_at types text) (tree_of x)) &> λ bs. Passes Undefined

@@ -15,6 +15,8 @@ use Rattle.typed_tree.specs.declared.operations.UnaryOp.TheVariants as unary
 use Rattle.typed_tree.specs.declared.operations.BinaryOp.{BinaryOp}
 use Rattle.typed_tree.specs.declared.operations.BinaryOp.TheVariants as binary
 use Rattle.typed_tree.specs.Ranges.{type_at, Range}
+use Rattle.meanings.specs.declared.errors.RuntimeError.TheVariants.{NoLabel}
+use Rattle.meanings.specs.Errors.{error_number}
 use Rattle.meanings.specs.Values.{Tree, Undefined, Whole, SetOf, NilPointer, HeapNumber, Reference, RoutineValue}
 use Rattle.meanings.specs.Worlds.{Slot, Refers, Calls}
 use Rattle.meanings.specs.Outcomes.{Cause, Error, Escape, Exit, Goto, Raise, ReadUndefined, Checked, Passes, Fails, Lacks}
@@ -201,8 +203,8 @@ for_loop d t down first last body = first >>= λ f. last >>= λ l. variable_spot
 -- ---- case, with and try
 
 unfoldable pub unmatched : Dialect → Checked (Unit {0})
-unmatched Iso = Fails 204
-unmatched Hp = Fails 204
+unmatched Iso = Fails NoLabel
+unmatched Hp = Fails NoLabel
 unmatched _ = Passes tt
 
 -- a `case` with neither a label nor a part for the rest
@@ -227,7 +229,7 @@ raised s (Raise c) = Some (Some c)
 raised s _ = None
 
 unfoldable pub code_of : Cause → ℤ
-code_of (Error e) = neg_ℤ (pos e)
+code_of (Error e) = neg_ℤ (pos (error_number e))
 code_of (Escape n) = n
 
 unfoldable pub recover_from : Prog (Unit {0}) → Option Cause → Prog (Unit {0})

@@ -7,6 +7,8 @@ use Rattle.typed_tree.specs.declared.types.PasType.{PasType}
 use Rattle.typed_tree.specs.declared.types.PasType.TheVariants.{Pointer, DynString, RecordOf}
 use Rattle.typed_tree.specs.declared.types.Types.{Types}
 use Rattle.typed_tree.specs.declared.operations.BinaryOp.TheVariants as op
+use Rattle.meanings.specs.declared.errors.RuntimeError.{RuntimeError}
+use Rattle.meanings.specs.declared.errors.RuntimeError.TheVariants as error
 use Rattle.meanings.specs.Values.{Tree, Undefined, Whole, SetOf, NilPointer, ArrayOf, no_trees, tree, Variable}
 use Rattle.meanings.specs.Worlds.{Holds, World}
 use Rattle.meanings.specs.Outcomes.{Raise, Error, Outcome, Normal, Exits}
@@ -27,7 +29,7 @@ number n = Given integer (Whole (pos n))
 abbrev gives : Tree → World → Outcome Tree
 gives t w = Normal t w
 
-abbrev raises : ℕ → World → Outcome Tree
+abbrev raises : RuntimeError → World → Outcome Tree
 raises e w = Exits (Raise (Error e)) w
 
 -- a dynamic string of these cells, the first with its length
@@ -45,7 +47,7 @@ sum : (w : World) → perform_in (types Iso ([])) (p.Add) (number 2 ∷ number 3
 unfolding perform_in
 sum w = refl
 
-sum_past_64_bits : (w : World) → perform_in (types Iso ([])) (p.Add) (number 9223372036854775807 ∷ number 1 ∷ []) w ≡ raises 203 w
+sum_past_64_bits : (w : World) → perform_in (types Iso ([])) (p.Add) (number 9223372036854775807 ∷ number 1 ∷ []) w ≡ raises error.Overflow w
 unfolding perform_in
 sum_past_64_bits w = refl
 
@@ -61,7 +63,7 @@ quotient : (w : World) → perform_in (types Iso ([])) (p.Divide) (number 7 ∷ 
 unfolding perform_in
 quotient w = refl
 
-quotient_by_zero : (w : World) → perform_in (types Iso ([])) (p.Divide) (number 7 ∷ number 0 ∷ []) w ≡ raises 200 w
+quotient_by_zero : (w : World) → perform_in (types Iso ([])) (p.Divide) (number 7 ∷ number 0 ∷ []) w ≡ raises error.BadDivisor w
 unfolding perform_in
 quotient_by_zero w = refl
 
@@ -101,7 +103,7 @@ in_range : (w : World) → perform_in (types Iso ([])) (p.Range (pos 1) (pos 5))
 unfolding perform_in
 in_range w = refl
 
-out_of_range : (w : World) → perform_in (types Iso ([])) (p.Range (pos 1) (pos 5)) (number 6 ∷ []) w ≡ raises 201 w
+out_of_range : (w : World) → perform_in (types Iso ([])) (p.Range (pos 1) (pos 5)) (number 6 ∷ []) w ≡ raises error.OutOfRange w
 unfolding perform_in
 out_of_range w = refl
 
@@ -109,7 +111,7 @@ index_in_a_string : (w : World) → perform_in (types Ucsd (DynString 3 ∷ []))
 unfolding perform_in
 index_in_a_string w = refl
 
-index_past_a_string : (w : World) → perform_in (types Ucsd (DynString 3 ∷ [])) (p.StringIndex own) (Given own (string (2 ∷ 65 ∷ 66 ∷ 0 ∷ [])) ∷ number 3 ∷ []) w ≡ raises 201 w
+index_past_a_string : (w : World) → perform_in (types Ucsd (DynString 3 ∷ [])) (p.StringIndex own) (Given own (string (2 ∷ 65 ∷ 66 ∷ 0 ∷ [])) ∷ number 3 ∷ []) w ≡ raises error.OutOfRange w
 unfolding perform_in
 index_past_a_string w = refl
 
@@ -117,11 +119,11 @@ index_in_the_cells_of_a_string : (w : World) → perform_in (types Turbo (DynStr
 unfolding perform_in
 index_in_the_cells_of_a_string w = refl
 
-nil_pointer : (w : World) → perform_in (types Iso (Pointer integer ∷ [])) (p.NotNil own) (Given own (NilPointer) ∷ []) w ≡ raises 202 w
+nil_pointer : (w : World) → perform_in (types Iso (Pointer integer ∷ [])) (p.NotNil own) (Given own (NilPointer) ∷ []) w ≡ raises error.NilUse w
 unfolding perform_in
 nil_pointer w = refl
 
-no_label : (w : World) → perform_in (types Iso ([])) (p.NoCase) ([]) w ≡ raises 204 w
+no_label : (w : World) → perform_in (types Iso ([])) (p.NoCase) ([]) w ≡ raises error.NoLabel w
 unfolding perform_in
 no_label w = refl
 
@@ -129,7 +131,7 @@ selected_variant : (w : World) → perform_in (types Iso (RecordOf false [] (Som
 unfolding perform_in
 selected_variant w = refl
 
-other_variant : (w : World) → perform_in (types Iso (RecordOf false [] (Some (variant_part 1 None boolean (arm (label_of (pos 1) ∷ []) (field 2 integer ∷ []) None ∷ arm (label_of (pos 0) ∷ []) (field 3 integer ∷ []) None ∷ []))) ∷ [])) (p.Selected own 3) (number 1 ∷ []) w ≡ raises 205 w
+other_variant : (w : World) → perform_in (types Iso (RecordOf false [] (Some (variant_part 1 None boolean (arm (label_of (pos 1) ∷ []) (field 2 integer ∷ []) None ∷ arm (label_of (pos 0) ∷ []) (field 3 integer ∷ []) None ∷ []))) ∷ [])) (p.Selected own 3) (number 1 ∷ []) w ≡ raises error.InactiveVariant w
 unfolding perform_in
 other_variant w = refl
 
@@ -137,7 +139,7 @@ length_within_the_limit : (w : World) → perform_in (types Turbo (DynString 3 �
 unfolding perform_in
 length_within_the_limit w = refl
 
-length_past_the_limit : (w : World) → perform_in (types Turbo (DynString 3 ∷ [])) (p.TextLength own) (Given own (string (4 ∷ 65 ∷ 66 ∷ 0 ∷ [])) ∷ []) w ≡ raises 207 w
+length_past_the_limit : (w : World) → perform_in (types Turbo (DynString 3 ∷ [])) (p.TextLength own) (Given own (string (4 ∷ 65 ∷ 66 ∷ 0 ∷ [])) ∷ []) w ≡ raises error.LongText w
 unfolding perform_in
 length_past_the_limit w = refl
 
@@ -185,7 +187,7 @@ range_is_included : (w : World) → perform_in (types Iso ([])) (p.IncludeRange)
 unfolding perform_in
 range_is_included w = refl
 
-member_past_255 : (w : World) → perform_in (types Iso ([])) (p.Include) (Given own (SetOf (marked 1 3 empty_set)) ∷ number 256 ∷ []) w ≡ raises 201 w
+member_past_255 : (w : World) → perform_in (types Iso ([])) (p.Include) (Given own (SetOf (marked 1 3 empty_set)) ∷ number 256 ∷ []) w ≡ raises error.OutOfRange w
 unfolding perform_in
 member_past_255 w = refl
 
@@ -231,7 +233,7 @@ successor : (w : World) → perform_in (types Iso ([])) (p.Succ boolean) (Given 
 unfolding perform_in
 successor w = refl
 
-predecessor_past_the_end : (w : World) → perform_in (types Iso ([])) (p.Pred boolean) (Given boolean (Whole (pos 0)) ∷ []) w ≡ raises 201 w
+predecessor_past_the_end : (w : World) → perform_in (types Iso ([])) (p.Pred boolean) (Given boolean (Whole (pos 0)) ∷ []) w ≡ raises error.OutOfRange w
 unfolding perform_in
 predecessor_past_the_end w = refl
 
