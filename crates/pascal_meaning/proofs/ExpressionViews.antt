@@ -2,6 +2,7 @@
 use Rattle.std.proofs.Common.{◌≡◌, ℕ, List, [], ◌∷◌, map, refl, ap, ◌∙◌, Option, Some, None}
 use Rattle.typed_tree.specs.declared.expressions.TypedExpr as X
 use Rattle.typed_tree.specs.declared.expressions.TypedExpr.{TypedExpr, Row_of-TypedExpr, Row_of-Selector, Row_of-BinaryPart, Row_of-TypedArg, Row_of-SetElem}
+use Rattle.typed_tree.specs.declared.expressions.Selector.{Selector}
 use Rattle.typed_tree.specs.declared.expressions.BinaryPart.{BinaryPart}
 use Rattle.typed_tree.specs.declared.expressions.SetElem.{SetElem}
 use Rattle.typed_tree.specs.declared.expressions.TypedArg.{TypedArg}
@@ -14,10 +15,10 @@ use Rattle.meanings.specs.Values.{Tree}
 use Rattle.meanings.specs.Programs.{Prog, ByReference, ◌>>=◌, pure, check, collect}
 use Rattle.pascal_meaning.specs.Sets.{empty_set}
 use Rattle.pascal_meaning.specs.Numbers.{number_of}
-use Rattle.pascal_meaning.specs.Places.{root_spot, refer}
+use Rattle.pascal_meaning.specs.Places.{root_type, root_spot, refer}
 use Rattle.pascal_meaning.specs.Calls.{Target, Shown, call_value}
 use Rattle.pascal_meaning.specs.Statements.{on_unary, Part, go_on, Element, Member, Members, with_elements, select_all, read_place, call_routine}
-use Rattle.pascal_meaning.specs.Meaning.{expr_type, Value, Select, selected, selectors, parts, elements, argument, arguments, operand, operands}
+use Rattle.pascal_meaning.specs.Meaning.{type_after, place_type, expr_type, parts_type, Value, Select, selected, selectors, parts, elements, argument, arguments, operand, operands}
 
 -- ---- rows
 
@@ -131,3 +132,58 @@ operand_written e = refl
 pub operand_wide : (e k : TypedExpr) → operand (arg.Written e (Some k)) ≡ (Value e >>= λ v. (Value k >>= λ z. pure (Some (number_of z))) >>= λ k. pure (Shown (expr_type e) v k))
 unfolding Value
 operand_wide e k = refl
+
+-- ---- types
+
+-- the type after these selectors
+pub type_through : ℕ → List Selector → ℕ
+type_through t [] = t
+type_through t (s ∷ ss) = type_through (type_after s) ss
+
+through_list : {n : _} (t : ℕ) (row : Row_of-Selector n) → place_type t row ≡ type_through t (X.items-the_row-Selector n row)
+unfolding place_type type_through
+through_list t X.end_of-Selector = refl
+through_list t (X.more_of-Selector s rest) = through_list (type_after s) rest
+
+type_read_row : (p : Place) (shape : List (Unit {0})) (row : Row_of-Selector _) → X.items-the_row-Selector _ row ≡ p.selectors → expr_type (X.Read' p.root shape row) ≡ type_through (root_type p.root) p.selectors
+unfolding expr_type
+type_read_row p shape row h = through_list (root_type p.root) row ∙ ap (type_through (root_type p.root)) h
+
+pub type_read : (p : Place) → expr_type (X.Read p) ≡ type_through (root_type p.root) p.selectors
+type_read p = type_read_row p _ _ (X.items_hidden-the_row-Selector-0 p.selectors)
+
+-- the type after these operators
+pub type_along : ℕ → List BinaryPart → ℕ
+type_along t [] = t
+type_along t (p ∷ ps) = type_along p.of ps
+
+along_list : {n : _} (t : ℕ) (row : Row_of-BinaryPart n) → parts_type t row ≡ type_along t (X.items-the_row-BinaryPart n row)
+unfolding expr_type type_along
+along_list t X.end_of-BinaryPart = refl
+along_list t (X.more_of-BinaryPart op e u rest) = along_list u rest
+
+type_binary_row : (row : Row_of-TypedExpr 1) (e : TypedExpr) (shape : List (Unit {0})) (others : Row_of-BinaryPart _) (ps : List BinaryPart)
+    → X.items-the_row-TypedExpr 1 row ≡ e ∷ [] → X.items-the_row-BinaryPart _ others ≡ ps → expr_type (X.Binary' tt row shape others) ≡ type_along (expr_type e) ps
+unfolding expr_type
+type_binary_row (X.more_of-TypedExpr x X.end_of-TypedExpr) e shape others ps h k =
+    let same : x ≡ e = cc in
+    along_list (expr_type x) others ∙ ap (type_along (expr_type x)) k ∙ ap (λ e. type_along (expr_type e) ps) same
+
+pub type_binary : (e : TypedExpr) (ps : List BinaryPart) → expr_type (X.Binary e ps) ≡ type_along (expr_type e) ps
+type_binary e ps = type_binary_row _ e _ _ ps (X.items_hidden-the_row-TypedExpr-2 e) (X.items_hidden-the_row-BinaryPart-3 ps)
+
+pub type_call : (c : Callee) (args : List TypedArg) (t : ℕ) → expr_type (X.Call c args t) ≡ t
+unfolding expr_type
+type_call c args t = refl
+
+pub type_unary : (op : UnaryOp) (e : TypedExpr) (t : ℕ) → expr_type (X.Unary op e t) ≡ t
+unfolding expr_type
+type_unary op e t = refl
+
+pub type_set : (es : List SetElem) (t : ℕ) → expr_type (X.SetOf es t) ≡ t
+unfolding expr_type
+type_set es t = refl
+
+pub type_predefined : (c : PredefCall) (args : List TypedArg) (t : ℕ) → expr_type (X.Predefined c args t) ≡ t
+unfolding expr_type
+type_predefined c args t = refl

@@ -20,7 +20,7 @@ use Rattle.meanings.specs.Programs.{Prog, ◌>>=◌, ◌>>◌, pure, stop, ask, 
 use Rattle.meanings.specs.Names.{enclosing}
 use Rattle.meanings.specs.Memory.{base_tree, solid}
 use Rattle.meanings.specs.Fresh.{size_of, fresh}
-use Rattle.pascal_meaning.specs.Numbers.{unless_error, exact, in_range, of_bool, equal, number_of, whole}
+use Rattle.pascal_meaning.specs.Numbers.{when, exact, in_range, of_bool, equal, number_of, whole}
 use Rattle.pascal_meaning.specs.Texts.{Text, Plain, text_of, length_of, read_text, read_texts, making}
 use Rattle.pascal_meaning.specs.Places.{Spot, component, read_spot, store, store_copy, assign}
 use Rattle.pascal_meaning.specs.Input.{at_end, at_line_end, get_char, read_into, read_line}
@@ -187,7 +187,7 @@ index_range types _ = None
 -- the place of the index i in an array from which n components are wanted, else `OutOfRange`
 unfoldable pub part_from : Option (ℤ × ℤ) → ℤ → ℕ → Checked ℕ
 part_from None i n = Lacks
-part_from (Some r) i n = unless_error (int_le r.0 i && int_le (i +ℤ pos n) (r.1 +ℤ pos 1)) OutOfRange (unsigned_abs (i -ℤ r.0))
+part_from (Some r) i n = when (int_le r.0 i && int_le (i +ℤ pos n) (r.1 +ℤ pos 1)) OutOfRange (unsigned_abs (i -ℤ r.0))
 
 -- the number of components of the packed array, and the index in the unpacked one
 unfoldable pub part_in : Types → (packed unpacked : ℕ) → ℤ → Checked (ℕ × ℕ)
@@ -254,7 +254,7 @@ value_of_text _ = stop ReadUndefined
 
 -- the length alone is set
 unfoldable pub set_length : List Operand → Prog (Unit {0})
-set_length (Target p ∷ n ∷ []) = check (λ types. limit_of (type_at types p.of) &> λ limit. unless_error (int_le (pos 0) (integer_of n) && int_le (integer_of n) limit) LongText (Whole (integer_of n)))
+set_length (Target p ∷ n ∷ []) = check (λ types. limit_of (type_at types p.of) &> λ limit. when (int_le (pos 0) (integer_of n) && int_le (integer_of n) limit) LongText (Whole (integer_of n)))
     >>= λ t. store_copy (component p 0 0) t
 set_length _ = stop ReadUndefined
 

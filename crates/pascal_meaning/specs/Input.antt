@@ -11,7 +11,7 @@ use Rattle.meanings.specs.declared.errors.RuntimeError.TheVariants.{BadNumber, P
 use Rattle.meanings.specs.Values.{Tree, Whole}
 use Rattle.meanings.specs.Outcomes.{Checked, Passes, Fails, ◌&>◌}
 use Rattle.meanings.specs.Programs.{Prog, ◌>>=◌, ◌>>◌, ask, check, update}
-use Rattle.pascal_meaning.specs.Numbers.{unless_error, between, host_range}
+use Rattle.pascal_meaning.specs.Numbers.{when, between, host_range}
 use Rattle.pascal_meaning.specs.Places.{Spot, assign}
 use Rattle.pascal_meaning.specs.Texts.{made}
 
@@ -69,7 +69,7 @@ signed minus n = elim minus [ true ↦ neg_ℤ (pos n) | false ↦ pos n ]
 unfoldable pub next_digits : Bool → List ℕ → Taken ℤ
 next_digits minus [] = (Fails BadNumber, [])
 next_digits minus (b ∷ bs) = elim (is_digit b) [
-  | true ↦ (let r = number_from 0 (b ∷ bs) in (unless_error (between host_range (signed minus r.0)) BadNumber (signed minus r.0), r.1))
+  | true ↦ (let r = number_from 0 (b ∷ bs) in (when (between host_range (signed minus r.0)) BadNumber (signed minus r.0), r.1))
   | false ↦ (Fails BadNumber, b ∷ bs)
 ]
 

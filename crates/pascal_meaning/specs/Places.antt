@@ -19,7 +19,7 @@ use Rattle.meanings.specs.Programs.{Setting, Prog, ◌>>=◌, ◌>>◌, pure, st
 use Rattle.meanings.specs.Names.{find_name}
 use Rattle.meanings.specs.Memory.{base_tree, tree_at, stored, kept, solid_at, slot_place, longer}
 use Rattle.meanings.specs.Fresh.{fresh}
-use Rattle.pascal_meaning.specs.Numbers.{unless_error, in_range, number_of}
+use Rattle.pascal_meaning.specs.Numbers.{when, in_range, number_of}
 use Rattle.pascal_meaning.specs.Sets.{fits_base}
 use Rattle.pascal_meaning.specs.Texts.{text_of, read_text, limited, made, filled}
 
@@ -91,7 +91,7 @@ settled types (g ∷ gs) v = elim (retagged types g.around g.part (first_label g
 
 -- a tag is read, and has to select the variant
 unfoldable pub confirm : Guard → Prog (Unit {0})
-confirm g = ask (λ s v. solid_at v (tree_at v (tag_of g.around g.part))) >>= λ t. check (λ types. unless_error (among g.variant.labels (number_of t)) InactiveVariant tt)
+confirm g = ask (λ s v. solid_at v (tree_at v (tag_of g.around g.part))) >>= λ t. check (λ types. when (among g.variant.labels (number_of t)) InactiveVariant tt)
 
 unfoldable pub confirm_all : List Guard → Prog (Unit {0})
 confirm_all [] = pure tt

@@ -14,7 +14,7 @@ use Rattle.meanings.specs.Outcomes.{ReadUndefined, Checked, Passes, Fails, Lacks
 use Rattle.meanings.specs.Programs.{Prog, ◌>>=◌, ◌>>◌, pure, stop, ask, check, print}
 use Rattle.pascal_meaning.specs.declared.operations.Primitive.{Primitive}
 use Rattle.pascal_meaning.specs.declared.operations.Primitive.TheVariants as p
-use Rattle.pascal_meaning.specs.Numbers.{unless_error, in_range, whole}
+use Rattle.pascal_meaning.specs.Numbers.{when, in_range, whole}
 use Rattle.pascal_meaning.specs.Sets.{with_member, with_members}
 use Rattle.pascal_meaning.specs.Texts.{text_of, length_of, byte_of, read_text}
 use Rattle.pascal_meaning.specs.Places.{among, Reach, InRange, ToLength, NoIndex, reach_of, pointed, converted, assign}
@@ -41,7 +41,7 @@ innermost (v ∷ w ∷ vs) = innermost (w ∷ vs)
 
 unfoldable pub selects : Option Variant → ℤ → Checked ℤ
 selects None z = Lacks
-selects (Some v) z = unless_error (among v.labels z) InactiveVariant z
+selects (Some v) z = when (among v.labels z) InactiveVariant z
 
 unfoldable pub a_pointer : Tree → Checked Tree
 a_pointer t = pointed t &> λ h. Passes t
