@@ -18,7 +18,7 @@ use Rattle.typed_tree.specs.declared.operations.PredefCall.TheVariants as call
 use Rattle.typed_tree.specs.declared.statements.TypedStmt as S
 use Rattle.meanings.specs.Code.{End, UndefinedAfter}
 use Rattle.pascal_meaning.specs.Whole.{run}
-use Rattle.pascal_meaning.proofs.Examples.Build.{integer, small, char, boolean, set_of, field, label_of, arm, variant_part, num, letter, truth, quoted, unary, chain, read, variable, outcome, call, set, predefined, value_for, by_reference, shown, assign_to, seq, if_then, if_else, while, for_of, with_part, with_all, try, labelled, case_of, perform, of_type, section, section_var, section_functions, procedure, function, whole, InEach}
+use Rattle.pascal_meaning.proofs.Examples.Build.{integer, small, char, boolean, text, set_of, field, label_of, arm, variant_part, num, letter, truth, quoted, unary, chain, read, variable, outcome, call, set, predefined, value_for, by_reference, shown, assign_to, seq, if_then, if_else, while, for_of, with_part, with_all, try, labelled, case_of, perform, of_type, section, section_var, section_functions, procedure, function, whole, InEach}
 
 -- begin write(+5, +5 - 2) end.
 plus_sign_in_iso_and_hp : InEach (Iso ∷ Hp ∷ []) (λ d. whole d [] [] [] [] [] (perform call.Write (shown (unary integer un.Plus (num 5)) ∷ shown (chain (unary integer un.Plus (num 5)) ((op.Sub, num 2, integer) ∷ [])) ∷ []) ∷ [])) [] 0 (End (codes "53") 0 [])
@@ -174,3 +174,82 @@ string_by_reference = (refl, (refl, (refl, tt)))
 nested_tries : run (whole Hp (Literal 2 ∷ []) (procedure 1 Program (section integer (2 ∷ []) ∷ []) [] [] (if_else (chain (read (variable 2 integer) []) ((op.Equal, num 0, boolean) ∷ [])) (perform call.Escape (value_for integer (num 9) ∷ [])) (S.Call (CalleeRoutine 1) (value_for integer (chain (read (variable 2 integer) []) ((op.Sub, num 1, integer) ∷ [])) ∷ [])) ∷ []) ∷ []) [] [] (1 ∷ []) (try (try (S.Call (CalleeRoutine 1) (value_for integer (num 2) ∷ []) ∷ []) (seq (perform call.Write (shown (letter 97) ∷ shown (predefined call.EscapeCode [] integer) ∷ []) ∷ S.Goto 1 ∷ [])) ∷ []) (perform call.Write (shown (quoted 5 (codes "no")) ∷ [])) ∷ perform call.Write (shown (quoted 5 (codes "no")) ∷ []) ∷ labelled 1 (perform call.Write (shown (letter 98) ∷ [])) ∷ [])) [] 5 ≡ End (codes "a9b") 0 (1 ∷ 1 ∷ 1 ∷ [])
 unfolding run
 nested_tries = refl
+
+-- the activation that is left ends normally, and its result is read
+-- function f: integer; procedure g; begin exit(f) end; begin f := 4; g; f := 5 end; begin write(f) end.
+exit_of_a_function_by_an_inner_routine : run (whole Ucsd [] (function 1 Program [] (of_type small 1) [] (assign_to small (outcome 1 small) [] (num 4) ∷ S.Call (CalleeRoutine 2) [] ∷ assign_to small (outcome 1 small) [] (num 5) ∷ []) ∷ procedure 2 (Owner.Routine 1) [] [] [] (perform call.ExitRoutine (arg.RoutineValue (CalleeRoutine 1) ∷ []) ∷ []) ∷ []) [] [] [] (perform call.Write (shown (call (CalleeRoutine 1) [] small) ∷ []) ∷ [])) [] 2 ≡ End (codes "4") 0 (1 ∷ 2 ∷ [])
+unfolding run
+exit_of_a_function_by_an_inner_routine = refl
+
+-- label 1; function f: integer; begin goto 1; f := 1 end; begin write('a'); write(f); 1: write('b') end.
+goto_reads_no_result_in_iso_and_hp : InEach (Iso ∷ Hp ∷ []) (λ d. whole d [] (function 1 Program [] (of_type integer 2) [] (S.Goto 1 ∷ assign_to integer (outcome 2 integer) [] (num 1) ∷ []) ∷ []) [] [] (1 ∷ []) (perform call.Write (shown (letter 97) ∷ []) ∷ perform call.Write (shown (call (CalleeRoutine 1) [] integer) ∷ []) ∷ labelled 1 (perform call.Write (shown (letter 98) ∷ [])) ∷ [])) [] 2 (End (codes "ab") 0 (1 ∷ []))
+unfolding run
+goto_reads_no_result_in_iso_and_hp = (refl, (refl, tt))
+
+goto_reads_no_result_in_turbo_and_ucsd : InEach (Turbo ∷ Ucsd ∷ []) (λ d. whole d [] (function 1 Program [] (of_type small 2) [] (S.Goto 1 ∷ assign_to small (outcome 2 small) [] (num 1) ∷ []) ∷ []) [] [] (1 ∷ []) (perform call.Write (shown (letter 97) ∷ []) ∷ perform call.Write (shown (call (CalleeRoutine 1) [] small) ∷ []) ∷ labelled 1 (perform call.Write (shown (letter 98) ∷ [])) ∷ [])) [] 2 (End (codes "ab") 0 (1 ∷ []))
+unfolding run
+goto_reads_no_result_in_turbo_and_ucsd = (refl, (refl, tt))
+
+-- var i, n: integer; begin n := 3; for i := 1 to n do begin n := 1; write(i) end end.
+last_limit_is_not_evaluated_again_in_iso_and_hp : InEach (Iso ∷ Hp ∷ []) (λ d. whole d [] [] [] (of_type integer 1 ∷ of_type integer 2 ∷ []) [] (assign_to integer (variable 2 integer) [] (num 3) ∷ for_of integer 1 false (num 1) (read (variable 2 integer) []) (seq (assign_to integer (variable 2 integer) [] (num 1) ∷ perform call.Write (shown (read (variable 1 integer) []) ∷ []) ∷ [])) ∷ [])) [] 3 (End (codes "123") 0 [])
+unfolding run
+last_limit_is_not_evaluated_again_in_iso_and_hp = (refl, (refl, tt))
+
+last_limit_is_not_evaluated_again_in_turbo_and_ucsd : InEach (Turbo ∷ Ucsd ∷ []) (λ d. whole d [] [] [] (of_type small 1 ∷ of_type small 2 ∷ []) [] (assign_to small (variable 2 small) [] (num 3) ∷ for_of small 1 false (num 1) (read (variable 2 small) []) (seq (assign_to small (variable 2 small) [] (num 1) ∷ perform call.Write (shown (read (variable 1 small) []) ∷ []) ∷ [])) ∷ [])) [] 3 (End (codes "123") 0 [])
+unfolding run
+last_limit_is_not_evaluated_again_in_turbo_and_ucsd = (refl, (refl, tt))
+
+-- f makes the string longer
+-- var s: string[5]; function f: integer; begin s := 'abc'; f := 3 end; begin s := 'a'; s[f] := 'z'; write(s) end.
+length_is_read_after_the_index_in_ucsd : run (whole Ucsd (DynString 5 ∷ Literal 3 ∷ []) (function 1 Program [] (of_type small 2) [] (assign_to 5 (variable 1 5) [] (quoted 6 (codes "abc")) ∷ assign_to small (outcome 2 small) [] (num 3) ∷ []) ∷ []) [] (of_type 5 1 ∷ []) [] (assign_to 5 (variable 1 5) [] (letter 97) ∷ assign_to char (variable 1 5) (selector.Index (call (CalleeRoutine 1) [] small) 5 char ∷ []) (letter 122) ∷ perform call.Write (shown (read (variable 1 5) []) ∷ []) ∷ [])) [] 1 ≡ End (codes "abz") 0 (1 ∷ [])
+unfolding run
+length_is_read_after_the_index_in_ucsd = refl
+
+length_is_read_after_the_index_in_hp : run (whole Hp (DynString 5 ∷ Literal 3 ∷ []) (function 1 Program [] (of_type integer 2) [] (assign_to 5 (variable 1 5) [] (quoted 6 (codes "abc")) ∷ assign_to integer (outcome 2 integer) [] (num 3) ∷ []) ∷ []) [] (of_type 5 1 ∷ []) [] (assign_to 5 (variable 1 5) [] (letter 97) ∷ assign_to char (variable 1 5) (selector.Index (call (CalleeRoutine 1) [] integer) 5 char ∷ []) (letter 122) ∷ perform call.Write (shown (read (variable 1 5) []) ∷ []) ∷ [])) [] 1 ≡ End (codes "abz") 0 (1 ∷ [])
+unfolding run
+length_is_read_after_the_index_in_hp = refl
+
+-- f changes the variable after it was copied
+-- var s: string[5]; function f: char; begin s := 'b'; f := 'a' end; begin s := 'a'; write(s = f, s) end.
+left_text_was_copied : InEach (Turbo ∷ Ucsd ∷ Hp ∷ []) (λ d. whole d (DynString 5 ∷ []) (function 1 Program [] (of_type char 2) [] (assign_to 5 (variable 1 5) [] (letter 98) ∷ assign_to char (outcome 2 char) [] (letter 97) ∷ []) ∷ []) [] (of_type 5 1 ∷ []) [] (assign_to 5 (variable 1 5) [] (letter 97) ∷ perform call.Write (shown (chain (read (variable 1 5) []) ((op.Equal, call (CalleeRoutine 1) [] char, boolean) ∷ [])) ∷ shown (read (variable 1 5) []) ∷ []) ∷ [])) [] 1 (End (codes "TRUEb") 0 (1 ∷ []))
+unfolding run
+left_text_was_copied = (refl, (refl, (refl, tt)))
+
+-- begin write('x'); dispose(nil) end.
+dispose_of_nil_itself : InEach (Iso ∷ Turbo ∷ Ucsd ∷ Hp ∷ []) (λ d. whole d [] [] [] [] [] (perform call.Write (shown (letter 120) ∷ []) ∷ perform call.Dispose (value_for text (X.Nil) ∷ []) ∷ [])) [] 0 (End (codes "x") 202 [])
+unfolding run
+dispose_of_nil_itself = (refl, (refl, (refl, (refl, tt))))
+
+-- each activation has its own reference
+-- var a: array [1..3] of record x: integer end; procedure p(n: integer); begin with a[n] do begin x := n; if n < 3 then p(n + 1); write(x) end end; begin p(1) end.
+with_in_a_recursive_routine_in_iso_and_hp : InEach (Iso ∷ Hp ∷ []) (λ d. whole d (Ordinal WholeHost (pos 1) (pos 3) ∷ RecordOf false (field 1 integer ∷ []) None ∷ Array false 5 6 ∷ []) (procedure 1 Program (section integer (3 ∷ []) ∷ []) [] [] (with_all (with_part 4 (variable 2 7) (selector.Index (read (variable 3 integer) []) 7 6 ∷ []) ∷ []) (seq (assign_to integer (root.WithRef 4 6) (selector.Field 1 integer ∷ []) (read (variable 3 integer) []) ∷ if_then (chain (read (variable 3 integer) []) ((op.Less, num 3, boolean) ∷ [])) (S.Call (CalleeRoutine 1) (value_for integer (chain (read (variable 3 integer) []) ((op.Add, num 1, integer) ∷ [])) ∷ [])) ∷ perform call.Write (shown (read (root.WithRef 4 6) (selector.Field 1 integer ∷ [])) ∷ []) ∷ [])) ∷ []) ∷ []) [] (of_type 7 2 ∷ []) [] (S.Call (CalleeRoutine 1) (value_for integer (num 1) ∷ []) ∷ [])) [] 3 (End (codes "321") 0 (1 ∷ 1 ∷ 1 ∷ []))
+unfolding run
+with_in_a_recursive_routine_in_iso_and_hp = (refl, (refl, tt))
+
+with_in_a_recursive_routine_in_turbo_and_ucsd : InEach (Turbo ∷ Ucsd ∷ []) (λ d. whole d (Ordinal WholeHost (pos 1) (pos 3) ∷ RecordOf false (field 1 small ∷ []) None ∷ Array false 5 6 ∷ []) (procedure 1 Program (section small (3 ∷ []) ∷ []) [] [] (with_all (with_part 4 (variable 2 7) (selector.Index (read (variable 3 small) []) 7 6 ∷ []) ∷ []) (seq (assign_to small (root.WithRef 4 6) (selector.Field 1 small ∷ []) (read (variable 3 small) []) ∷ if_then (chain (read (variable 3 small) []) ((op.Less, num 3, boolean) ∷ [])) (S.Call (CalleeRoutine 1) (value_for small (chain (read (variable 3 small) []) ((op.Add, num 1, small) ∷ [])) ∷ [])) ∷ perform call.Write (shown (read (root.WithRef 4 6) (selector.Field 1 small ∷ [])) ∷ []) ∷ [])) ∷ []) ∷ []) [] (of_type 7 2 ∷ []) [] (S.Call (CalleeRoutine 1) (value_for small (num 1) ∷ []) ∷ [])) [] 3 (End (codes "321") 0 (1 ∷ 1 ∷ 1 ∷ []))
+unfolding run
+with_in_a_recursive_routine_in_turbo_and_ucsd = (refl, (refl, tt))
+
+-- var i: integer; begin i := 1; try i := 1 div 0 recover write(i) end.
+error_in_a_value_leaves_the_target : run (whole Hp [] [] [] (of_type integer 1 ∷ []) [] (assign_to integer (variable 1 integer) [] (num 1) ∷ try (assign_to integer (variable 1 integer) [] (chain (num 1) ((op.Div, num 0, integer) ∷ [])) ∷ []) (perform call.Write (shown (read (variable 1 integer) []) ∷ [])) ∷ [])) [] 0 ≡ End (codes "1") 0 []
+unfolding run
+error_in_a_value_leaves_the_target = refl
+
+-- procedure p(n: integer); begin write('p') end; begin write('x'); p(1 div 0) end.
+error_in_an_argument_enters_no_routine_in_iso_and_hp : InEach (Iso ∷ Hp ∷ []) (λ d. whole d [] (procedure 1 Program (section integer (1 ∷ []) ∷ []) [] [] (perform call.Write (shown (letter 112) ∷ []) ∷ []) ∷ []) [] [] [] (perform call.Write (shown (letter 120) ∷ []) ∷ S.Call (CalleeRoutine 1) (value_for integer (chain (num 1) ((op.Div, num 0, integer) ∷ [])) ∷ []) ∷ [])) [] 1 (End (codes "x") 200 [])
+unfolding run
+error_in_an_argument_enters_no_routine_in_iso_and_hp = (refl, (refl, tt))
+
+error_in_an_argument_enters_no_routine_in_turbo_and_ucsd : InEach (Turbo ∷ Ucsd ∷ []) (λ d. whole d [] (procedure 1 Program (section small (1 ∷ []) ∷ []) [] [] (perform call.Write (shown (letter 112) ∷ []) ∷ []) ∷ []) [] [] [] (perform call.Write (shown (letter 120) ∷ []) ∷ S.Call (CalleeRoutine 1) (value_for small (chain (num 1) ((op.Div, num 0, small) ∷ [])) ∷ []) ∷ [])) [] 1 (End (codes "x") 200 [])
+unfolding run
+error_in_an_argument_enters_no_routine_in_turbo_and_ucsd = (refl, (refl, tt))
+
+-- each component has its own
+-- var a: array [1..2] of record case Boolean of true: (x: integer); false: (y: integer) end; begin a[1].x := 1; a[2].y := 2; write(a[1].x, a[2].y); write(a[2].x) end.
+hidden_tag_of_an_array_component_in_iso_and_hp : InEach (Iso ∷ Hp ∷ []) (λ d. whole d (Ordinal WholeHost (pos 1) (pos 2) ∷ RecordOf false [] (Some (variant_part 1 None boolean (arm (label_of (pos 1) ∷ []) (field 2 integer ∷ []) None ∷ arm (label_of (pos 0) ∷ []) (field 3 integer ∷ []) None ∷ []))) ∷ Array false 5 6 ∷ []) [] [] (of_type 7 4 ∷ []) [] (assign_to integer (variable 4 7) (selector.Index (num 1) 7 6 ∷ selector.Field 2 integer ∷ []) (num 1) ∷ assign_to integer (variable 4 7) (selector.Index (num 2) 7 6 ∷ selector.Field 3 integer ∷ []) (num 2) ∷ perform call.Write (shown (read (variable 4 7) (selector.Index (num 1) 7 6 ∷ selector.Field 2 integer ∷ [])) ∷ shown (read (variable 4 7) (selector.Index (num 2) 7 6 ∷ selector.Field 3 integer ∷ [])) ∷ []) ∷ perform call.Write (shown (read (variable 4 7) (selector.Index (num 2) 7 6 ∷ selector.Field 2 integer ∷ [])) ∷ []) ∷ [])) [] 0 (End (codes "12") 205 [])
+unfolding run
+hidden_tag_of_an_array_component_in_iso_and_hp = (refl, (refl, tt))
+
+hidden_tag_of_an_array_component_in_turbo_and_ucsd : InEach (Turbo ∷ Ucsd ∷ []) (λ d. whole d (Ordinal WholeHost (pos 1) (pos 2) ∷ RecordOf false [] (Some (variant_part 1 None boolean (arm (label_of (pos 1) ∷ []) (field 2 small ∷ []) None ∷ arm (label_of (pos 0) ∷ []) (field 3 small ∷ []) None ∷ []))) ∷ Array false 5 6 ∷ []) [] [] (of_type 7 4 ∷ []) [] (assign_to small (variable 4 7) (selector.Index (num 1) 7 6 ∷ selector.Field 2 small ∷ []) (num 1) ∷ assign_to small (variable 4 7) (selector.Index (num 2) 7 6 ∷ selector.Field 3 small ∷ []) (num 2) ∷ perform call.Write (shown (read (variable 4 7) (selector.Index (num 1) 7 6 ∷ selector.Field 2 small ∷ [])) ∷ shown (read (variable 4 7) (selector.Index (num 2) 7 6 ∷ selector.Field 3 small ∷ [])) ∷ []) ∷ perform call.Write (shown (read (variable 4 7) (selector.Index (num 2) 7 6 ∷ selector.Field 2 small ∷ [])) ∷ []) ∷ [])) [] 0 (End (codes "12") 205 [])
+unfolding run
+hidden_tag_of_an_array_component_in_turbo_and_ucsd = (refl, (refl, tt))

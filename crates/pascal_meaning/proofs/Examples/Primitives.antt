@@ -1,15 +1,17 @@
 -- What primitives do, in a world of which nothing else is known.
-use Rattle.std.proofs.Common.{◌≡◌, ℕ, List, [], ◌∷◌, ◌++◌, refl, true, false, Some, None}
+use Rattle.std.proofs.Common.{◌≡◌, ℕ, List, [], ◌∷◌, ◌++◌, refl, true, false, Option, Some, None}
 use Rattle.std.specs.Prelude.{codes, pos, negsuc}
 use Rattle.p2c_text.specs.declared.dialect.Dialect.{Dialect}
 use Rattle.p2c_text.specs.declared.dialect.Dialect.TheVariants.{Iso, Turbo, Ucsd, Hp}
 use Rattle.typed_tree.specs.declared.types.PasType.{PasType}
-use Rattle.typed_tree.specs.declared.types.PasType.TheVariants.{Pointer, DynString, RecordOf}
+use Rattle.typed_tree.specs.declared.types.PasType.TheVariants.{Pointer, Array, DynString, RecordOf, SetOf as SetType}
 use Rattle.typed_tree.specs.declared.types.Types.{Types}
+use Rattle.typed_tree.specs.declared.types.Packing.TheVariants.{Unpacked}
+use Rattle.typed_tree.specs.declared.declarations.Owner.TheVariants.{Program}
 use Rattle.typed_tree.specs.declared.operations.BinaryOp.TheVariants as op
 use Rattle.meanings.specs.declared.errors.RuntimeError.{RuntimeError}
 use Rattle.meanings.specs.declared.errors.RuntimeError.TheVariants as error
-use Rattle.meanings.specs.Values.{Tree, Undefined, Whole, SetOf, NilPointer, ArrayOf, no_trees, tree, Variable}
+use Rattle.meanings.specs.Values.{Tree, Undefined, Whole, SetOf, NilPointer, HeapNumber, ArrayOf, no_trees, tree, Variable}
 use Rattle.meanings.specs.Worlds.{Holds, World}
 use Rattle.meanings.specs.Outcomes.{Raise, Error, Outcome, Normal, Exits}
 use Rattle.pascal_meaning.specs.declared.operations.Primitive.TheVariants as p
@@ -18,7 +20,7 @@ use Rattle.pascal_meaning.specs.Sets.{empty_set, marked}
 use Rattle.pascal_meaning.specs.Places.{plain}
 use Rattle.pascal_meaning.specs.Calls.{Operand, Given, Target}
 use Rattle.pascal_meaning.specs.Whole.{perform_in}
-use Rattle.pascal_meaning.proofs.Examples.Build.{integer, char, boolean, own, known_types, label_of, arm, variant_part, field}
+use Rattle.pascal_meaning.proofs.Examples.Build.{integer, char, boolean, own, known_types, label_of, arm, variant_part, field, range}
 
 abbrev types : Dialect → List PasType → Types
 types d ts = record { dialect = d; list = known_types ++ ts }
@@ -38,7 +40,18 @@ string bs = ArrayOf (cells bs)
 
 -- a world with one activation, of which name 1 holds the tree, and with this input
 abbrev with_variable : Tree → List ℕ → World → World
-with_variable t input w = record w { activations = record { number = 7; owner = Rattle.typed_tree.specs.declared.declarations.Owner.TheVariants.Program; parent = 7; names = (1, Holds t) ∷ [] } ∷ []; input = input }
+with_variable t input w = record w { activations = record { number = 7; owner = Program; parent = 7; names = (1, Holds t) ∷ [] } ∷ []; input = input }
+
+-- with the tree in a world with this heap
+abbrev with_heap : Tree → List (Option Tree) → World → World
+with_heap t heap w = record (with_variable t [] w) { heap = heap }
+
+-- names 1 and 2 hold the trees
+abbrev with_two : Tree → Tree → World → World
+with_two t u w = record w { activations = record { number = 7; owner = Program; parent = 7; names = (1, Holds t) ∷ (2, Holds u) ∷ [] } ∷ [] }
+
+abbrev second_target : ℕ → Operand
+second_target t = Target (plain (record { base = Variable 7 2; path = [] }) t)
 
 abbrev target : ℕ → Operand
 target t = Target (plain (record { base = Variable 7 1; path = [] }) t)
@@ -328,3 +341,45 @@ text_is_appended w = refl
 length_is_set : (w : World) → perform_in (types Hp (DynString 3 ∷ [])) (p.SetStrLen own) (target own ∷ number 1 ∷ []) (with_variable (string (2 ∷ 97 ∷ 98 ∷ 0 ∷ [])) ([]) w) ≡ gives Undefined (with_variable (string (1 ∷ 97 ∷ 98 ∷ 0 ∷ [])) ([]) w)
 unfolding perform_in
 length_is_set w = refl
+
+set_is_stored : (w : World) → perform_in (types Iso (range (pos 1) (pos 9) ∷ SetType Unpacked (Some own) ∷ [])) (p.StoreSet 6) (target 6 ∷ Given 6 (SetOf (marked 2 3 empty_set)) ∷ []) (with_variable (Undefined) ([]) w) ≡ gives Undefined (with_variable (SetOf (marked 2 3 empty_set)) ([]) w)
+unfolding perform_in
+set_is_stored w = refl
+
+end_of_input : (w : World) → perform_in (types Iso ([])) (p.Eof) ([]) (with_variable Undefined ([]) w) ≡ gives (Whole (pos 1)) (with_variable Undefined ([]) w)
+unfolding perform_in
+end_of_input w = refl
+
+end_of_line : (w : World) → perform_in (types Iso ([])) (p.Eoln) ([]) (with_variable Undefined (10 ∷ []) w) ≡ gives (Whole (pos 1)) (with_variable Undefined (10 ∷ []) w)
+unfolding perform_in
+end_of_line w = refl
+
+-- it stays
+next_character : (w : World) → perform_in (types Iso ([])) (p.LookAhead) ([]) (with_variable Undefined (codes "a") w) ≡ gives (Whole (pos 97)) (with_variable Undefined (codes "a") w)
+unfolding perform_in
+next_character w = refl
+
+escape_code : (w : World) → perform_in (types Hp ([])) (p.EscapeCode) ([]) (w) ≡ gives (Whole w.escape_code) w
+unfolding perform_in
+escape_code w = refl
+
+new_variable : (w : World) → perform_in (types Iso (Pointer integer ∷ [])) (p.New own) (target own ∷ []) (with_heap (Undefined) ([]) w) ≡ gives Undefined (with_heap (HeapNumber 0) (Some Undefined ∷ []) w)
+unfolding perform_in
+new_variable w = refl
+
+variable_is_gone : (w : World) → perform_in (types Iso (Pointer integer ∷ [])) (p.Dispose own) (Given own (HeapNumber 0) ∷ []) (with_heap (HeapNumber 0) (Some (Whole (pos 5)) ∷ []) w) ≡ gives Undefined (with_heap (HeapNumber 0) (None ∷ []) w)
+unfolding perform_in
+variable_is_gone w = refl
+
+packed_from_an_index : (w : World) → perform_in (types Iso (range (pos 1) (pos 4) ∷ range (pos 1) (pos 2) ∷ Array false own char ∷ Array true 6 char ∷ [])) (p.Pack 7 8) (Given 7 (ArrayOf (cells (codes "abcd"))) ∷ number 3 ∷ target 8 ∷ []) (with_variable (ArrayOf (cells (codes "xy"))) ([]) w) ≡ gives Undefined (with_variable (ArrayOf (cells (codes "cd"))) ([]) w)
+unfolding perform_in
+packed_from_an_index w = refl
+
+unpacked_to_an_index : (w : World) → perform_in (types Iso (range (pos 1) (pos 4) ∷ range (pos 1) (pos 2) ∷ Array false own char ∷ Array true 6 char ∷ [])) (p.Unpack 8 7) (Given 8 (ArrayOf (cells (codes "xy"))) ∷ target 7 ∷ number 2 ∷ []) (with_variable (ArrayOf (cells (codes "abcd"))) ([]) w) ≡ gives Undefined (with_variable (ArrayOf (cells (codes "axyd"))) ([]) w)
+unfolding perform_in
+unpacked_to_an_index w = refl
+
+-- the number, and then the place of the first byte that does not fit
+value_of_a_text : (w : World) → perform_in (types Turbo ([])) (p.Val 4 integer integer) (Given 4 (made (codes "12")) ∷ target integer ∷ second_target integer ∷ []) (with_two Undefined Undefined w) ≡ gives Undefined (with_two (Whole (pos 12)) (Whole (pos 0)) w)
+unfolding perform_in
+value_of_a_text w = refl
