@@ -20,7 +20,8 @@
 //!
 //! A law on programs is a `Judgement`, one lemma for each combinator. What is made of combinators
 //! then takes one line for each case of the tree, for every such law at once. `proofs/Growth` has the
-//! law of bounds, `proofs/Simulation` that of temporaries.
+//! law of bounds, `proofs/Simulation` that of temporaries, and `proofs/Equations` which programs are
+//! equal.
 #![tactic(auto)]
 
 mod errors;

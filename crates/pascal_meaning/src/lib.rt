@@ -28,7 +28,8 @@
 //!   carries its type.
 //! - An argument of a predefined call is a `Reference` where the call changes it, `Written` where it
 //!   is written, as the number of Turbo's `str`, else a `Value`. The array from which `pack` copies is
-//!   a `Value`, and so is the one from which `unpack` copies. A file stands among no arguments.
+//!   a `Value`, and so is the one from which `unpack` copies. The string of `strmax` may be either. A
+//!   file stands among no arguments.
 //! - What does not fit its type means the read of something undefined.
 #![tactic(auto)]
 
