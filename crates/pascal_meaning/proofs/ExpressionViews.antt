@@ -16,7 +16,7 @@ use Rattle.meanings.specs.Programs.{Prog, ByReference, ◌>>=◌, pure, check, c
 use Rattle.pascal_meaning.specs.Sets.{empty_set}
 use Rattle.pascal_meaning.specs.Numbers.{number_of}
 use Rattle.pascal_meaning.specs.Places.{root_type, root_spot, refer}
-use Rattle.pascal_meaning.specs.Calls.{Target, Shown, call_value}
+use Rattle.pascal_meaning.specs.Predefined.{Target, Shown, call_value}
 use Rattle.pascal_meaning.specs.Statements.{on_unary, Part, go_on, Element, Member, Members, with_elements, select_all, read_place, call_routine}
 use Rattle.pascal_meaning.specs.Meaning.{type_after, place_type, expr_type, parts_type, Value, Select, selected, selectors, parts, elements, argument, arguments, operand, operands}
 

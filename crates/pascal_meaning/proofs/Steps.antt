@@ -19,7 +19,7 @@ use Rattle.meanings.specs.Programs.{Passed, Setting, Heading, Prog, ◌>>=◌, �
 use Rattle.meanings.specs.Judgement.{Judgement}
 use Rattle.pascal_meaning.specs.Places.{Guard, Spot, confirm, confirm_all, root_spot, guards_through, field_spot, Reach, InRange, ToLength, NoIndex, bounds_of, index_spot, read_spot, follow_spot, refer, store, store_copy, assign}
 use Rattle.pascal_meaning.specs.Input.{Taken, take_by, read_into, read_line, get_char}
-use Rattle.pascal_meaning.specs.Calls.{Operand, Given, Target, Shown, Named, call_value, halt_with, escape_with, activation_of, leave, leave_named, make_new, dispose, put_components, pack, unpack, step_by, increase, decrease, read_operand, read_held, store_text, insert, delete, append, to_text, value_of_text, set_length, read_one, write_one, one_by_one, acted, call_statement}
+use Rattle.pascal_meaning.specs.Predefined.{Operand, Given, Target, Shown, Named, call_value, halt_with, escape_with, activation_of, leave, leave_named, make_new, dispose, put_components, pack, unpack, step_by, increase, decrease, read_operand, read_held, store_text, insert, delete, append, to_text, value_of_text, set_length, read_one, write_one, one_by_one, acted, call_statement}
 use Rattle.pascal_meaning.specs.declared.operations.Primitive.{Primitive}
 use Rattle.pascal_meaning.specs.declared.operations.Primitive.TheVariants as p
 use Rattle.pascal_meaning.specs.Primitives.{by_operator, by_call, no_answer, store_into, read_target, perform}

@@ -7,7 +7,7 @@ use Rattle.meanings.specs.Code.{Answer, End, UndefinedAfter, CutAfter}
 use Rattle.meanings.specs.Bounds.{IsPrefix, output_of, entries_of}
 use Rattle.meanings.specs.Temporaries.{Same}
 use Rattle.pascal_meaning.specs.declared.operations.Primitive.{Primitive}
-use Rattle.pascal_meaning.specs.Calls.{Operand}
+use Rattle.pascal_meaning.specs.Predefined.{Operand}
 use Rattle.pascal_meaning.specs.Primitives.{perform}
 use Rattle.pascal_meaning.specs.Meaning.{Value, Exec, Pas}
 

@@ -24,7 +24,7 @@ use Rattle.pascal_meaning.specs.Numbers.{number_of, holds}
 use Rattle.pascal_meaning.specs.Sets.{empty_set}
 use Rattle.pascal_meaning.specs.Texts.{made}
 use Rattle.pascal_meaning.specs.Places.{Spot, root_type, root_spot, field_spot, index_spot, follow_spot, refer, converted, assigned, store}
-use Rattle.pascal_meaning.specs.Calls.{Operand, Given, Target, Shown, Named, call_value, call_statement}
+use Rattle.pascal_meaning.specs.Predefined.{Operand, Given, Target, Shown, Named, call_value, call_statement}
 use Rattle.pascal_meaning.specs.Statements.{on_unary, Part, go_on, Element, Member, Members, with_elements, select_all, read_place, resolve, call_routine, Item, sequence, goto, while_loop, repeat_loop, for_loop, no_case, cases, with_all, try_recover}
 
 -- ---- types of expressions

@@ -19,7 +19,7 @@ use Rattle.pascal_meaning.specs.Sets.{with_member, with_members}
 use Rattle.pascal_meaning.specs.Texts.{text_of, length_of, byte_of, read_text}
 use Rattle.pascal_meaning.specs.Places.{among, Reach, InRange, ToLength, NoIndex, reach_of, pointed, converted, assign}
 use Rattle.pascal_meaning.specs.Input.{read_into, read_line, look_ahead}
-use Rattle.pascal_meaning.specs.Calls.{Operand, Given, Target, Shown, tree_of, integer_of, counted, call_value, acted, write_one}
+use Rattle.pascal_meaning.specs.Predefined.{Operand, Given, Target, Shown, tree_of, integer_of, counted, call_value, acted, write_one}
 use Rattle.pascal_meaning.specs.Statements.{on_unary, operated}
 
 -- ---- checks

@@ -28,7 +28,7 @@ use Rattle.pascal_meaning.specs.Sets.{on_sets, is_member, with_member, with_memb
 use Rattle.pascal_meaning.specs.Texts.{text_of, on_texts}
 use Rattle.pascal_meaning.specs.Places.{Spot, among, plain, place_named, read_spot, store}
 use Rattle.pascal_meaning.specs.Input.{look_ahead}
-use Rattle.pascal_meaning.specs.Calls.{activation_of}
+use Rattle.pascal_meaning.specs.Predefined.{activation_of}
 
 -- ---- operators
 

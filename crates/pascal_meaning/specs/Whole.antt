@@ -20,7 +20,7 @@ use Rattle.pascal_meaning.specs.Places.{among, selection_from, selection, same_s
 use Rattle.pascal_meaning.specs.Input.{take_by, seen, next_char, look_ahead, at_end, at_line_end, is_blank, is_digit, after_blanks, number_from, signed, next_digits, next_signed, line_part, next_string, after_line, skip_line, numbered, next_value, read_into, read_line, get_char}
 use Rattle.pascal_meaning.specs.Output.{width_of, places, padded, shown_length, shown_text, truth_text, shown, written}
 use Rattle.pascal_meaning.specs.TextCalls.{place_from, amount, copied, inserted, deleted, part_of, starts_with, found_from, position, without_spaces, trimmed_right, times, repeated, capital, with_digit, digits_valued, unsigned_valued, signed_valued, valued}
-use Rattle.pascal_meaning.specs.Calls.{Operand, tree_of, integer_of, text_in, texts_in, in_host, limit_of, operand_type, counted, computed, truth_value, call_value, halt_with, escape_with, activation_of, leave, leave_named, domain_of, with_new, make_new, without_heap, disposable, dispose, dropped, first_trees, trees_of, put_components, component_type, index_range, part_from, part_in, pack, unpack, step_by, increase, decrease, read_operand, read_held, store_text, insert, delete, append, to_text, value_of_text, set_length, read_one, write_one, one_by_one, acted, call_statement}
+use Rattle.pascal_meaning.specs.Predefined.{Operand, tree_of, integer_of, text_in, texts_in, in_host, limit_of, operand_type, counted, computed, truth_value, call_value, halt_with, escape_with, activation_of, leave, leave_named, domain_of, with_new, make_new, without_heap, disposable, dispose, dropped, first_trees, trees_of, put_components, component_type, index_range, part_from, part_in, pack, unpack, step_by, increase, decrease, read_operand, read_held, store_text, insert, delete, append, to_text, value_of_text, set_length, read_one, write_one, one_by_one, acted, call_statement}
 use Rattle.pascal_meaning.specs.Statements.{on_unary, same_pointer, on_pointers, operated, read_again, apply_operator, go_on, with_element, with_elements, select_all, read_place, routine_named, parent_of, resolve, call_routine, is_labelled, labels_of, run_all, run_from, begin_at, own_goto, sequence, goto, again_where, while_loop, repeat_loop, has_turn, next_turn, variable_spot, for_turns, for_loop, unmatched, no_case, cases, bind_reference, with_all, raised, code_of, recover_from, try_recover}
 use Rattle.pascal_meaning.specs.Meaning.{type_after, place_type, expr_type, parts_type, Value, selected, selectors, parts, elements, argument, arguments, operand, operands, width, Select, with_part, Exec, items, arms, otherwise, routine_heading, unit_headings, headings, outline, routine_code, block_code, code, Pas}
 use Rattle.pascal_meaning.specs.Primitives.{first_cell, in_reach, innermost, selects, a_pointer, typed, set_made, included, range_included, written_operand, last_operand, target_of, by_operator, by_call, no_answer, store_into, read_target, decided, perform}

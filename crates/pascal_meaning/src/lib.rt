@@ -9,7 +9,7 @@
 //! |---|---|
 //! | `Meaning` | one line for each form of expression and statement; programs |
 //! | `Statements` | operators, set constructors, calls, sequences and gotos, loops, `case`, `with`, `try` |
-//! | `Calls` | the predefined calls, on operands that were evaluated |
+//! | `Predefined` | the predefined calls, on operands that were evaluated |
 //! | `Primitives` | what each `Primitive` does with its operands |
 //! | `Places` | places while they are selected: variants and their tags, indexes, pointers; reading, references, stores |
 //! | `Input`, `Output` | what each reading takes and leaves; the bytes of a written value |

@@ -18,7 +18,7 @@ use Rattle.pascal_meaning.specs.declared.operations.Primitive.TheVariants as p
 use Rattle.pascal_meaning.specs.Texts.{cells, made}
 use Rattle.pascal_meaning.specs.Sets.{empty_set, marked}
 use Rattle.pascal_meaning.specs.Places.{plain}
-use Rattle.pascal_meaning.specs.Calls.{Operand, Given, Target}
+use Rattle.pascal_meaning.specs.Predefined.{Operand, Given, Target}
 use Rattle.pascal_meaning.specs.Whole.{perform_in}
 use Rattle.pascal_meaning.proofs.Examples.Build.{integer, char, boolean, own, known_types, label_of, arm, variant_part, field, range}
 
