@@ -30,7 +30,7 @@
 //!   is written, as the number of Turbo's `str`, else a `Value`. The array from which `pack` copies is
 //!   a `Value`, and so is the one from which `unpack` copies. The string of `strmax` may be either. A
 //!   file stands among no arguments.
-//! - What does not fit its type means the read of something undefined.
+//! - A tree that does not fit its types has some meaning too, of which nothing is promised.
 #![tactic(auto)]
 
 pub mod laws;
