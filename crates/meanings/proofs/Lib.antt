@@ -1,2 +1,4 @@
+pub mod Equations
 pub mod Growth
+pub mod Simulation
 pub mod SteadyCode

@@ -7,6 +7,7 @@ use Rattle.typed_tree.specs.declared.declarations.Owner.TheVariants.{Program, Un
 use Rattle.typed_tree.specs.declared.declarations.VarDecl.{VarDecl}
 use Rattle.typed_tree.specs.declared.declarations.FormalSection.{FormalSection}
 use Rattle.typed_tree.specs.Ranges.{type_at}
+use Rattle.meanings.specs.Errors.{error_number}
 use Rattle.meanings.specs.Values.{Tree, Undefined, ArrayOf, tree, RoutineValue, Variable}
 use Rattle.meanings.specs.Worlds.{Slot, Holds, Refers, Calls, Activation, World, View}
 use Rattle.meanings.specs.Outcomes.{Cause, Error, Escape, Exit, Goto, Leave, Raise, Halt, ReadUndefined, Cut, Outcome, Normal, Exits}
@@ -156,7 +157,7 @@ pub data Answer : Type 0 where
   CutAfter : (output entries : List ℕ) → Answer
 
 unfoldable pub cause_status : Cause → ℕ
-cause_status (Error e) = e
+cause_status (Error e) = error_number e
 cause_status (Escape n) = 209
 
 unfoldable pub exit_answer : Exit → World → Answer

@@ -1,10 +1,12 @@
 pub mod Bounds
 pub mod Code
+pub mod Errors
 pub mod Fresh
 pub mod Judgement
 pub mod Memory
 pub mod Names
 pub mod Outcomes
 pub mod Programs
+pub mod Temporaries
 pub mod Values
 pub mod Worlds

@@ -1,10 +1,11 @@
 -- How a part of a program ends, and what a check gives.
 use Rattle.std.specs.Prelude.{ℕ, ℤ}
+use Rattle.meanings.specs.declared.errors.RuntimeError.{RuntimeError}
 use Rattle.meanings.specs.Worlds.{World}
 
--- what raised: a runtime error by its number, or `escape`
+-- what raised: a runtime error, or `escape`
 pub data Cause : Type 0 where
-  Error : ℕ → Cause
+  Error : RuntimeError → Cause
   Escape : ℤ → Cause
 
 -- why a part did not end normally
@@ -33,7 +34,7 @@ and_then (Exits e w) f = Exits e w
 -- a value, a runtime error in its place, or nothing where something undefined is met
 pub data Checked (X : Type 0) : Type 0 where
   Passes : X → Checked X
-  Fails : (error : ℕ) → Checked X
+  Fails : RuntimeError → Checked X
   Lacks : Checked X
 
 -- what is done with a value that passed

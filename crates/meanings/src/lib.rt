@@ -9,15 +9,24 @@
 //! |---|---|
 //! | `Values` | value trees, references, routine values |
 //! | `Worlds` | activations, heap, input left, output, entries, escape code; what a program sees of them |
+//! | `Errors` | the numbers of runtime errors |
 //! | `Outcomes` | normal, goto, leave, raise, halt, undefined read, cut; what a check gives |
 //! | `Programs` | the combinators |
 //! | `Names`, `Memory`, `Fresh` | activations and names; reading and storing in value trees; new variables |
 //! | `Code` | routines and blocks in some language, activations, levels, and the answer at a bound |
-//! | `Bounds`, `Judgement` | what an answer at a bound says of greater ones; what a law on programs needs to know |
+//! | `Bounds` | what an answer at a bound says of the answers at greater ones |
+//! | `Temporaries` | programs that do the same while the second may use temporaries |
+//! | `Judgement` | what a law on programs needs to know of the combinators |
 //!
-//! A law on programs is a `Judgement`: one lemma for each combinator. What is made by combinators is
-//! then one line for each case of the tree, for every such law at once. `proofs/Growth` has that of
-//! bounds.
+//! A law on programs is a `Judgement`, one lemma for each combinator. What is made of combinators
+//! then takes one line for each case of the tree, for every such law at once. `proofs/Growth` has the
+//! law of bounds, `proofs/Simulation` that of temporaries, and `proofs/Equations` which programs are
+//! equal.
 #![tactic(auto)]
 
+mod errors;
 pub mod laws;
+#[cfg(test)]
+mod tests;
+
+pub use errors::RuntimeError;

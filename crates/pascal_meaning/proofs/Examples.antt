@@ -1,9 +1,11 @@
 pub mod Build
 pub mod Exits
+pub mod Further
 pub mod Heap
 pub mod InputAndOutput
 pub mod Longer
 pub mod Ordinals
+pub mod Primitives
 pub mod Routines
 pub mod Rows
 pub mod Sets

@@ -1,4 +1,7 @@
 pub mod Bounds
 mod Examples
+pub mod ExpressionViews
+pub mod StatementViews
 pub mod Steps
 pub mod Trees
+pub mod Unseen

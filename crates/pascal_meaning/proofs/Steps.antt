@@ -19,7 +19,10 @@ use Rattle.meanings.specs.Programs.{Passed, Setting, Heading, Prog, ◌>>=◌, �
 use Rattle.meanings.specs.Judgement.{Judgement}
 use Rattle.pascal_meaning.specs.Places.{Guard, Spot, confirm, confirm_all, root_spot, guards_through, field_spot, Reach, InRange, ToLength, NoIndex, bounds_of, index_spot, read_spot, follow_spot, refer, store, store_copy, assign}
 use Rattle.pascal_meaning.specs.Input.{Taken, take_by, read_into, read_line, get_char}
-use Rattle.pascal_meaning.specs.Calls.{Operand, Given, Target, Shown, Named, call_value, halt_with, escape_with, activation_of, leave, leave_named, make_new, dispose, put_components, pack, unpack, step_by, increase, decrease, read_operand, read_held, store_text, insert, delete, append, to_text, value_of_text, set_length, read_one, write_one, one_by_one, acted, call_statement}
+use Rattle.pascal_meaning.specs.Predefined.{Operand, Given, Target, Shown, Named, call_value, halt_with, escape_with, activation_of, leave, leave_named, make_new, dispose, put_components, pack, unpack, step_by, increase, decrease, read_operand, read_held, store_text, insert, delete, append, to_text, value_of_text, set_length, read_one, write_one, one_by_one, acted, call_statement}
+use Rattle.pascal_meaning.specs.declared.operations.Primitive.{Primitive}
+use Rattle.pascal_meaning.specs.declared.operations.Primitive.TheVariants as p
+use Rattle.pascal_meaning.specs.Primitives.{by_operator, by_call, no_answer, store_into, read_target, perform}
 use Rattle.pascal_meaning.specs.Statements.{read_again, apply_operator, Part, go_on, Element, Member, Members, with_element, with_elements, select_all, read_place, parent_of, resolve, call_routine, Item, run_all, run_from, Start, First, AtLabel, begin_at, sequence, goto, while_loop, repeat_loop, variable_spot, for_turns, for_loop, no_case, cases, bind_reference, with_all, recover_from, try_recover}
 
 module _ (J : Judgement) where
@@ -462,3 +465,94 @@ module _ (J : Judgement) where
   pub of_try : {body recover : Prog (Unit {0})} → J.Holds body → J.Holds recover → J.Holds (try_recover body recover)
   unfolding try_recover
   of_try h k = bind (J.of_handle _ (next h (of_pure None))) (λ c. of_recover k c)
+
+  -- ---- primitives
+
+  of_by_operator : (o : BinaryOp) (l r : ℕ) (xs : List Operand) → J.Holds (by_operator o l r xs)
+  unfolding by_operator
+  of_by_operator o l r (x ∷ y ∷ []) = of_check _
+  of_by_operator o l r _ = of_stop _
+
+  of_by_call : (c : PredefCall) (f t : ℕ) (xs : List Operand) → J.Holds (by_call c f t xs)
+  unfolding by_call
+  of_by_call c f t (x ∷ xs) = of_call_value c _ t
+  of_by_call c f t [] = of_call_value c [] t
+
+  of_no_answer : {q : Prog (Unit {0})} → J.Holds q → J.Holds (no_answer q)
+  unfolding no_answer
+  of_no_answer h = next h (of_pure _)
+
+  of_store_into : (t s : ℕ) (xs : List Operand) → J.Holds (store_into t s xs)
+  unfolding store_into
+  of_store_into t s (Target q ∷ x ∷ []) = search (simple, of_assign)
+  of_store_into t s _ = of_stop _
+
+  of_read_target : (t : ℕ) (xs : List Operand) → J.Holds (read_target t xs)
+  unfolding read_target
+  of_read_target t (Target q ∷ []) = of_read_into _
+  of_read_target t _ = of_stop _
+
+  pub of_perform : (c : Primitive) (xs : List Operand) → J.Holds (perform c xs)
+  unfolding perform
+  of_perform p.Add xs = of_by_operator _ _ _ _
+  of_perform p.Subtract xs = of_by_operator _ _ _ _
+  of_perform p.Multiply xs = of_by_operator _ _ _ _
+  of_perform p.Divide xs = of_by_operator _ _ _ _
+  of_perform p.Modulo xs = of_by_operator _ _ _ _
+  of_perform p.BitAnd xs = of_by_operator _ _ _ _
+  of_perform p.BitOr xs = of_by_operator _ _ _ _
+  of_perform p.BitXor xs = of_by_operator _ _ _ _
+  of_perform p.ShiftLeft xs = of_by_operator _ _ _ _
+  of_perform p.ShiftRight xs = of_by_operator _ _ _ _
+  of_perform p.Union xs = of_by_operator _ _ _ _
+  of_perform p.Difference xs = of_by_operator _ _ _ _
+  of_perform p.Intersection xs = of_by_operator _ _ _ _
+  of_perform p.SetEqual xs = of_by_operator _ _ _ _
+  of_perform p.SetUnequal xs = of_by_operator _ _ _ _
+  of_perform p.Subset xs = of_by_operator _ _ _ _
+  of_perform p.Superset xs = of_by_operator _ _ _ _
+  of_perform p.Member xs = of_by_operator _ _ _ _
+  of_perform (p.Join l r) xs = of_by_operator _ _ _ _
+  of_perform (p.Compare o l r) xs = of_by_operator _ _ _ _
+  of_perform (p.StoreSet target) xs = of_no_answer (of_store_into _ _ _)
+  of_perform (p.StoreText target text) xs = of_no_answer (of_store_into _ _ _)
+  of_perform p.Abs xs = of_by_call _ _ _ _
+  of_perform p.Sqr xs = of_by_call _ _ _ _
+  of_perform p.Odd xs = of_by_call _ _ _ _
+  of_perform p.Ord xs = of_by_call _ _ _ _
+  of_perform p.Chr xs = of_by_call _ _ _ _
+  of_perform (p.Succ ordinal) xs = of_by_call _ _ _ _
+  of_perform (p.Pred ordinal) xs = of_by_call _ _ _ _
+  of_perform p.Eof xs = of_by_call _ _ _ _
+  of_perform p.Eoln xs = of_by_call _ _ _ _
+  of_perform p.EscapeCode xs = of_by_call _ _ _ _
+  of_perform p.LookAhead xs = search simple
+  of_perform p.UpCase xs = of_by_call _ _ _ _
+  of_perform (p.Length text) xs = of_by_call _ _ _ _
+  of_perform (p.StrLen text) xs = of_by_call _ _ _ _
+  of_perform (p.StrMax string) xs = of_by_call _ _ _ _
+  of_perform (p.Copy text) xs = of_by_call _ _ _ _
+  of_perform (p.TextPart text) xs = of_by_call _ _ _ _
+  of_perform (p.StrLTrim text) xs = of_by_call _ _ _ _
+  of_perform (p.StrRTrim text) xs = of_by_call _ _ _ _
+  of_perform (p.StrRpt text) xs = of_by_call _ _ _ _
+  of_perform (p.Pos part text) (x ∷ y ∷ []) = of_call_value _ _ _
+  of_perform (p.New pointer) (x ∷ []) = of_no_answer (of_acted _ _)
+  of_perform (p.Dispose pointer) xs = of_no_answer (of_acted _ _)
+  of_perform (p.Pack a z) (x ∷ i ∷ y ∷ []) = of_no_answer (of_acted _ _)
+  of_perform (p.Unpack z a) (x ∷ y ∷ i ∷ []) = of_no_answer (of_acted _ _)
+  of_perform p.Get xs = of_no_answer (of_acted _ _)
+  of_perform p.Page xs = of_no_answer (of_acted _ _)
+  of_perform (p.Read target) xs = of_no_answer (of_read_target _ _)
+  of_perform p.Readln xs = of_no_answer of_read_line
+  of_perform (p.Write t w) xs = of_no_answer (of_write_one _)
+  of_perform p.Writeln xs = of_no_answer (of_print _)
+  of_perform (p.Inc target) (x ∷ xs) = of_no_answer (of_acted _ _)
+  of_perform (p.Dec target) (x ∷ xs) = of_no_answer (of_acted _ _)
+  of_perform (p.Insert text target) (x ∷ y ∷ i ∷ []) = of_no_answer (of_acted _ _)
+  of_perform (p.Delete target) (x ∷ xs) = of_no_answer (of_acted _ _)
+  of_perform (p.NumberText number target w) xs = of_no_answer (of_acted _ _)
+  of_perform (p.Val text i code) (x ∷ y ∷ z ∷ []) = of_no_answer (of_acted _ _)
+  of_perform (p.StrAppend target text) (x ∷ y ∷ []) = of_no_answer (of_acted _ _)
+  of_perform (p.SetStrLen target) (x ∷ xs) = of_no_answer (of_acted _ _)
+  of_perform c xs = of_check _

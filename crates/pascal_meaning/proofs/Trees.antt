@@ -13,15 +13,15 @@ use Rattle.typed_tree.specs.declared.statements.WithPart.{WithPart}
 use Rattle.meanings.specs.Programs.{Prog}
 use Rattle.meanings.specs.Judgement.{Judgement}
 use Rattle.pascal_meaning.specs.Places.{Spot}
-use Rattle.pascal_meaning.specs.Meaning.{value, selected, selectors, parts, elements, argument, arguments, operand, operands, width, place, with_part, exec, items, arms, otherwise}
+use Rattle.pascal_meaning.specs.Meaning.{Value, selected, selectors, parts, elements, argument, arguments, operand, operands, width, Select, with_part, Exec, items, arms, otherwise}
 use Rattle.pascal_meaning.proofs.Steps as s
 use Rattle.pascal_meaning.proofs.Steps.{Each, EachSelector, EachPart, OfElement, One, Two, EachElement, EachItem, EachArm, EachWith}
 
 module _ (J : Judgement) where
   mutual
-    unfolding value
+    unfolding Value
 
-    pub of_value : (e : TypedExpr) → J.Holds (value e)
+    pub of_value : (e : TypedExpr) → J.Holds (Value e)
     of_value (X.Number z t) = s.of_pure J _
     of_value (X.TextConst bs t) = s.of_pure J _
     of_value X.Nil = s.of_pure J _
@@ -86,8 +86,8 @@ module _ (J : Judgement) where
   each_operand [] = Each.Empty
   each_operand (x ∷ xs) = Each.And (of_operand x) (each_operand xs)
 
-  pub of_place : (p : Place) → J.Holds (place p)
-  unfolding place
+  pub of_place : (p : Place) → J.Holds (Select p)
+  unfolding Select
   of_place p = s.bind J (s.of_root J p.root) (λ q. s.of_select_all J (each_selected p.selectors) q)
 
   each_with : (ps : List WithPart) → EachWith J (map with_part ps)
@@ -96,9 +96,9 @@ module _ (J : Judgement) where
   each_with (p ∷ ps) = EachWith.And (s.bind J (of_place p.place) (λ q. s.of_refer J q)) (each_with ps)
 
   mutual
-    unfolding exec
+    unfolding Exec
 
-    pub of_exec : (x : TypedStmt) → J.Holds (exec x)
+    pub of_exec : (x : TypedStmt) → J.Holds (Exec x)
     of_exec S.Empty = s.of_pure J tt
     of_exec (S.Assign p e t) = s.bind J (of_place p) (λ q. s.bind J (of_value e) (λ v. s.bind J (s.of_check J _) (λ v. s.of_store J q v)))
     of_exec (S.Call c args) = s.next J (s.of_call_routine J c (each_argument args)) (s.of_pure J tt)

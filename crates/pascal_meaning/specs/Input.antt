@@ -7,10 +7,11 @@ use Rattle.typed_tree.specs.declared.types.Host.TheVariants.{Char}
 use Rattle.typed_tree.specs.declared.types.PasType.{PasType}
 use Rattle.typed_tree.specs.declared.types.PasType.TheVariants.{Ordinal, DynString}
 use Rattle.typed_tree.specs.Ranges.{type_at}
+use Rattle.meanings.specs.declared.errors.RuntimeError.TheVariants.{BadNumber, PastEnd}
 use Rattle.meanings.specs.Values.{Tree, Whole}
 use Rattle.meanings.specs.Outcomes.{Checked, Passes, Fails, ◌&>◌}
 use Rattle.meanings.specs.Programs.{Prog, ◌>>=◌, ◌>>◌, ask, check, update}
-use Rattle.pascal_meaning.specs.Numbers.{unless_error, between, host_range}
+use Rattle.pascal_meaning.specs.Numbers.{when, between, host_range}
 use Rattle.pascal_meaning.specs.Places.{Spot, assign}
 use Rattle.pascal_meaning.specs.Texts.{made}
 
@@ -28,12 +29,12 @@ unfoldable pub seen : ℕ → ℤ
 seen b = elim (nat_eq b 10) [ true ↦ pos 32 | false ↦ pos b ]
 
 unfoldable pub next_char : List ℕ → Taken ℤ
-next_char [] = (Fails 208, [])
+next_char [] = (Fails PastEnd, [])
 next_char (b ∷ bs) = (Passes (seen b), bs)
 
 -- the next character, which stays
 unfoldable pub look_ahead : List ℕ → Checked ℤ
-look_ahead [] = Fails 208
+look_ahead [] = Fails PastEnd
 look_ahead (b ∷ bs) = Passes (seen b)
 
 unfoldable pub at_end : List ℕ → Bool
@@ -42,7 +43,7 @@ at_end (b ∷ bs) = false
 
 unfoldable pub at_line_end : Dialect → List ℕ → Checked Bool
 at_line_end Turbo [] = Passes true
-at_line_end d [] = Fails 208
+at_line_end d [] = Fails PastEnd
 at_line_end d (b ∷ bs) = Passes (nat_eq b 10)
 
 -- ---- whole numbers
@@ -66,14 +67,14 @@ unfoldable pub signed : Bool → ℕ → ℤ
 signed minus n = elim minus [ true ↦ neg_ℤ (pos n) | false ↦ pos n ]
 
 unfoldable pub next_digits : Bool → List ℕ → Taken ℤ
-next_digits minus [] = (Fails 206, [])
+next_digits minus [] = (Fails BadNumber, [])
 next_digits minus (b ∷ bs) = elim (is_digit b) [
-  | true ↦ (let r = number_from 0 (b ∷ bs) in (unless_error (between host_range (signed minus r.0)) 206 (signed minus r.0), r.1))
-  | false ↦ (Fails 206, b ∷ bs)
+  | true ↦ (let r = number_from 0 (b ∷ bs) in (when (between host_range (signed minus r.0)) BadNumber (signed minus r.0), r.1))
+  | false ↦ (Fails BadNumber, b ∷ bs)
 ]
 
 unfoldable pub next_signed : List ℕ → Taken ℤ
-next_signed [] = (Fails 208, [])
+next_signed [] = (Fails PastEnd, [])
 next_signed (b ∷ bs) = elim (nat_eq b 45) [ true ↦ next_digits true bs | false ↦ elim (nat_eq b 43) [ true ↦ next_digits false bs | false ↦ next_digits false (b ∷ bs) ] ]
 
 -- ---- strings and lines
@@ -86,7 +87,7 @@ line_part (suc n) (b ∷ bs) = elim (nat_eq b 10) [ true ↦ ([], b ∷ bs) | fa
 
 unfoldable pub next_string : Dialect → ℕ → List ℕ → Taken Tree
 next_string Turbo n [] = (Passes (made []), [])
-next_string d n [] = (Fails 208, [])
+next_string d n [] = (Fails PastEnd, [])
 next_string d n (b ∷ bs) = (let r = line_part n (b ∷ bs) in (Passes (made r.0), r.1))
 
 unfoldable pub after_line : List ℕ → List ℕ
@@ -95,7 +96,7 @@ after_line (b ∷ bs) = elim (nat_eq b 10) [ true ↦ bs | false ↦ after_line 
 
 unfoldable pub skip_line : Dialect → List ℕ → Taken (Unit {0})
 skip_line Turbo [] = (Passes tt, [])
-skip_line d [] = (Fails 208, [])
+skip_line d [] = (Fails PastEnd, [])
 skip_line d (b ∷ bs) = (Passes tt, after_line (b ∷ bs))
 
 -- ---- reading a variable

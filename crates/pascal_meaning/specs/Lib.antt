@@ -1,10 +1,11 @@
-pub mod Calls
 pub mod Input
 pub mod Laws
 pub mod Meaning
 pub mod Numbers
 pub mod Output
 pub mod Places
+pub mod Predefined
+pub mod Primitives
 pub mod Sets
 pub mod Statements
 pub mod TextCalls

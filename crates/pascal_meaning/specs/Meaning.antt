@@ -24,7 +24,7 @@ use Rattle.pascal_meaning.specs.Numbers.{number_of, holds}
 use Rattle.pascal_meaning.specs.Sets.{empty_set}
 use Rattle.pascal_meaning.specs.Texts.{made}
 use Rattle.pascal_meaning.specs.Places.{Spot, root_type, root_spot, field_spot, index_spot, follow_spot, refer, converted, assigned, store}
-use Rattle.pascal_meaning.specs.Calls.{Operand, Given, Target, Shown, Named, call_value, call_statement}
+use Rattle.pascal_meaning.specs.Predefined.{Operand, Given, Target, Shown, Named, call_value, call_statement}
 use Rattle.pascal_meaning.specs.Statements.{on_unary, Part, go_on, Element, Member, Members, with_elements, select_all, read_place, resolve, call_routine, Item, sequence, goto, while_loop, repeat_loop, for_loop, no_case, cases, with_all, try_recover}
 
 -- ---- types of expressions
@@ -58,20 +58,20 @@ unfoldable mutual
 -- ---- expressions
 
 unfoldable mutual
-  pub value : TypedExpr → Prog Tree
-  value (X.Number z t) = pure (Whole z)
-  value (X.TextConst bs t) = pure (made bs)
-  value X.Nil = pure NilPointer
-  value (X.Read' r shape row) = read_place r (root_spot r >>= λ p. select_all (selectors row) p)
-  value (X.Call' c shape row t) = call_routine c (arguments row)
-  value (X.Unary' op p (X.more_of-TypedExpr e X.end_of-TypedExpr) t) = value e >>= λ v. check (λ types. on_unary op v)
-  value (X.Binary' p (X.more_of-TypedExpr e X.end_of-TypedExpr) shape row) = value e >>= λ v. go_on (parts row) (expr_type e) v
-  value (X.SetOf' shape row t) = with_elements (elements row) empty_set
-  value (X.Predefined' c shape row t) = collect (operands row) >>= λ xs. call_value c xs t
+  pub Value : TypedExpr → Prog Tree
+  Value (X.Number z t) = pure (Whole z)
+  Value (X.TextConst bs t) = pure (made bs)
+  Value X.Nil = pure NilPointer
+  Value (X.Read' r shape row) = read_place r (root_spot r >>= λ p. select_all (selectors row) p)
+  Value (X.Call' c shape row t) = call_routine c (arguments row)
+  Value (X.Unary' op p (X.more_of-TypedExpr e X.end_of-TypedExpr) t) = Value e >>= λ v. check (λ types. on_unary op v)
+  Value (X.Binary' p (X.more_of-TypedExpr e X.end_of-TypedExpr) shape row) = Value e >>= λ v. go_on (parts row) (expr_type e) v
+  Value (X.SetOf' shape row t) = with_elements (elements row) empty_set
+  Value (X.Predefined' c shape row t) = collect (operands row) >>= λ xs. call_value c xs t
 
   -- what a selector does to the place before it
   pub selected : Selector → Spot → Prog Spot
-  selected (selector.Index e a t) p = value e >>= λ v. index_spot a t p v
+  selected (selector.Index e a t) p = Value e >>= λ v. index_spot a t p v
   selected (selector.Field f t) p = field_spot f t p
   selected (selector.Follow t) p = follow_spot t p
 
@@ -81,16 +81,16 @@ unfoldable mutual
 
   pub parts : {m : _} → Row_of-BinaryPart m → List Part
   parts X.end_of-BinaryPart = []
-  parts (X.more_of-BinaryPart op e t rest) = record { op = op; operand = value e; type = expr_type e; of = t } ∷ parts rest
+  parts (X.more_of-BinaryPart op e t rest) = record { op = op; operand = Value e; type = expr_type e; of = t } ∷ parts rest
 
   pub elements : {m : _} → Row_of-SetElem m → List Element
   elements X.end_of-SetElem = []
-  elements (X.more_of-SetElem e X.None' rest) = Member (value e) ∷ elements rest
-  elements (X.more_of-SetElem e (X.Some' f) rest) = Members (value e) (value f) ∷ elements rest
+  elements (X.more_of-SetElem e X.None' rest) = Member (Value e) ∷ elements rest
+  elements (X.more_of-SetElem e (X.Some' f) rest) = Members (Value e) (Value f) ∷ elements rest
 
   -- an argument of a routine: a value is converted in its turn, a place becomes a reference in its turn
   pub argument : TypedArg → Prog Passed
-  argument (arg.Value e t) = value e >>= λ v. check (λ types. converted types t (type_at types (expr_type e)) v) >>= λ v. pure (ByValue v)
+  argument (arg.Value e t) = Value e >>= λ v. check (λ types. converted types t (type_at types (expr_type e)) v) >>= λ v. pure (ByValue v)
   argument (arg.Reference' r shape row) = (root_spot r >>= λ p. select_all (selectors row) p) >>= λ p. refer p >>= λ r. pure (ByReference r)
   argument (arg.RoutineValue c) = resolve c >>= λ r. pure (ByRoutine r)
   argument (arg.Written' e k) = stop ReadUndefined
@@ -101,10 +101,10 @@ unfoldable mutual
 
   -- an argument of a predefined call: a place is selected, and a width comes after the written value
   pub operand : TypedArg → Prog Operand
-  operand (arg.Value e t) = value e >>= λ v. pure (Given (expr_type e) v)
+  operand (arg.Value e t) = Value e >>= λ v. pure (Given (expr_type e) v)
   operand (arg.Reference' r shape row) = (root_spot r >>= λ p. select_all (selectors row) p) >>= λ p. pure (Target p)
   operand (arg.RoutineValue c) = pure (Named c)
-  operand (arg.Written' e k) = value e >>= λ v. width k >>= λ k. pure (Shown (expr_type e) v k)
+  operand (arg.Written' e k) = Value e >>= λ v. width k >>= λ k. pure (Shown (expr_type e) v k)
 
   pub operands : {m : _} → Row_of-TypedArg m → List (Prog Operand)
   operands X.end_of-TypedArg = []
@@ -112,47 +112,47 @@ unfoldable mutual
 
   pub width : Held-TypedArg-Written-1 → Prog (Option ℤ)
   width X.None' = pure None
-  width (X.Some' e) = value e >>= λ v. pure (Some (number_of v))
+  width (X.Some' e) = Value e >>= λ v. pure (Some (number_of v))
 
--- a place outside an expression
-unfoldable pub place : Place → Prog Spot
-place p = root_spot p.root >>= λ q. select_all (map selected p.selectors) q
+-- the place that is selected
+unfoldable pub Select : Place → Prog Spot
+Select p = root_spot p.root >>= λ q. select_all (map selected p.selectors) q
 
 -- the reference of a `with`, with its name
 unfoldable pub with_part : WithPart → ℕ × Prog Reference
-with_part p = (p.decl, (place p.place >>= λ q. refer q))
+with_part p = (p.decl, (Select p.place >>= λ q. refer q))
 
 -- ---- statements
 
 unfoldable mutual
-  pub exec : TypedStmt → Prog (Unit {0})
-  exec S.Empty = pure tt
-  exec (S.Assign p e t) = place p >>= λ q. value e >>= λ v. check (λ types. assigned types t (type_at types (expr_type e)) v) >>= λ v. store q v
-  exec (S.Call c args) = call_routine c (map argument args) >> pure tt
-  exec (S.Predefined c args) = call_statement c (map operand args)
-  exec (S.Goto l) = goto l
-  exec (S.Seq' shape row) = sequence (items row)
-  exec (S.If' e p (S.more_of-TypedStmt body S.end_of-TypedStmt) other) = value e >>= λ v. choose (holds v) (exec body) (otherwise (pure tt) other)
-  exec (S.Case' e shape row rest) = value e >>= λ v. cases (arms row) (otherwise no_case rest) v
-  exec (S.While' e p (S.more_of-TypedStmt body S.end_of-TypedStmt)) = while_loop (value e) (exec body)
-  exec (S.Repeat' shape row e) = repeat_loop (sequence (items row)) (value e)
-  exec (S.For' v first down last p (S.more_of-TypedStmt body S.end_of-TypedStmt)) = for_loop v.decl v.of down (value first) (value last) (exec body)
-  exec (S.With' ps p (S.more_of-TypedStmt body S.end_of-TypedStmt)) = with_all (map with_part ps) (exec body)
-  exec (S.Try' shape row p (S.more_of-TypedStmt rest S.end_of-TypedStmt)) = try_recover (sequence (items row)) (exec rest)
-  exec (S.Labelled' l p (S.more_of-TypedStmt body S.end_of-TypedStmt)) = sequence (record { label = Some l; run = exec body } ∷ [])
+  pub Exec : TypedStmt → Prog (Unit {0})
+  Exec S.Empty = pure tt
+  Exec (S.Assign p e t) = Select p >>= λ q. Value e >>= λ v. check (λ types. assigned types t (type_at types (expr_type e)) v) >>= λ v. store q v
+  Exec (S.Call c args) = call_routine c (map argument args) >> pure tt
+  Exec (S.Predefined c args) = call_statement c (map operand args)
+  Exec (S.Goto l) = goto l
+  Exec (S.Seq' shape row) = sequence (items row)
+  Exec (S.If' e p (S.more_of-TypedStmt body S.end_of-TypedStmt) other) = Value e >>= λ v. choose (holds v) (Exec body) (otherwise (pure tt) other)
+  Exec (S.Case' e shape row rest) = Value e >>= λ v. cases (arms row) (otherwise no_case rest) v
+  Exec (S.While' e p (S.more_of-TypedStmt body S.end_of-TypedStmt)) = while_loop (Value e) (Exec body)
+  Exec (S.Repeat' shape row e) = repeat_loop (sequence (items row)) (Value e)
+  Exec (S.For' v first down last p (S.more_of-TypedStmt body S.end_of-TypedStmt)) = for_loop v.decl v.of down (Value first) (Value last) (Exec body)
+  Exec (S.With' ps p (S.more_of-TypedStmt body S.end_of-TypedStmt)) = with_all (map with_part ps) (Exec body)
+  Exec (S.Try' shape row p (S.more_of-TypedStmt rest S.end_of-TypedStmt)) = try_recover (sequence (items row)) (Exec rest)
+  Exec (S.Labelled' l p (S.more_of-TypedStmt body S.end_of-TypedStmt)) = sequence (record { label = Some l; run = Exec body } ∷ [])
 
   pub items : {m : _} → Row_of-TypedStmt m → List Item
   items S.end_of-TypedStmt = []
-  items (S.more_of-TypedStmt (S.Labelled' l p (S.more_of-TypedStmt body S.end_of-TypedStmt)) rest) = record { label = Some l; run = exec body } ∷ items rest
-  items (S.more_of-TypedStmt s rest) = record { label = None; run = exec s } ∷ items rest
+  items (S.more_of-TypedStmt (S.Labelled' l p (S.more_of-TypedStmt body S.end_of-TypedStmt)) rest) = record { label = Some l; run = Exec body } ∷ items rest
+  items (S.more_of-TypedStmt s rest) = record { label = None; run = Exec s } ∷ items rest
 
   pub arms : {m : _} → S.Row_of-TypedArm m → List (List LabelRange × Prog (Unit {0}))
   arms S.end_of-TypedArm = []
-  arms (S.more_of-TypedArm labels body rest) = (labels, exec body) ∷ arms rest
+  arms (S.more_of-TypedArm labels body rest) = (labels, Exec body) ∷ arms rest
 
   pub otherwise : Prog (Unit {0}) → S.Held-TypedStmt-If-2 → Prog (Unit {0})
   otherwise p S.None' = p
-  otherwise p (S.Some' q (S.more_of-TypedStmt s S.end_of-TypedStmt)) = exec s
+  otherwise p (S.Some' q (S.more_of-TypedStmt s S.end_of-TypedStmt)) = Exec s
 
 -- ---- programs
 
@@ -170,10 +170,10 @@ unfoldable pub outline : Typed → Outline
 outline p = record { types = p.types; blocks = headings p }
 
 unfoldable pub routine_code : Routine → RoutineCode
-routine_code r = record { number = r.number; formals = r.formals; result = r.result; locals = r.locals; run = exec r.body }
+routine_code r = record { number = r.number; formals = r.formals; result = r.result; locals = r.locals; run = Exec r.body }
 
 unfoldable pub block_code : Body → BlockCode
-block_code b = record { locals = b.locals; run = exec b.body }
+block_code b = record { locals = b.locals; run = Exec b.body }
 
 unfoldable pub code : Typed → Code
 code p = record { outline = outline p; routines = map routine_code p.routines; units = map block_code p.units; main = block_code p.main }

@@ -5,15 +5,17 @@ use Rattle.p2c_text.specs.declared.dialect.Dialect.{Dialect}
 use Rattle.p2c_text.specs.declared.dialect.Dialect.TheVariants.{Iso, Hp}
 use Rattle.typed_tree.specs.declared.operations.BinaryOp.{BinaryOp}
 use Rattle.typed_tree.specs.declared.operations.BinaryOp.TheVariants.{Add, Sub, Mul, Div, Mod, BitAnd, BitOr, BitXor, Shl, Shr, Equal, Unequal, Less, Greater, LessEq, GreaterEq}
+use Rattle.meanings.specs.declared.errors.RuntimeError.{RuntimeError}
+use Rattle.meanings.specs.declared.errors.RuntimeError.TheVariants.{BadDivisor, OutOfRange, Overflow}
 use Rattle.meanings.specs.Values.{Tree, Whole}
 use Rattle.meanings.specs.Outcomes.{Checked, Passes, Fails, Lacks, ◌&>◌}
 
 -- ---- ranges
 
--- the value, or this error where the test fails
-unfoldable pub unless_error : {X : Type 0} → Bool → (error : ℕ) → X → Checked X
-unless_error true e x = Passes x
-unless_error false e x = Fails e
+-- the value where the test holds, or else this error
+unfoldable pub when : {X : Type 0} → Bool → RuntimeError → X → Checked X
+when true e x = Passes x
+when false e x = Fails e
 
 unfoldable pub between : ℤ × ℤ → ℤ → Bool
 between r z = int_le r.0 z && int_le z r.1
@@ -25,28 +27,28 @@ equal x y = int_le x y && int_le y x
 abbrev pub host_range : ℤ × ℤ
 host_range = (negsuc 9223372036854775807, pos 9223372036854775807)
 
--- a result in 64 bits, else 203
+-- a result in 64 bits, else `Overflow`
 unfoldable pub exact : ℤ → Checked ℤ
-exact z = unless_error (between host_range z) 203 z
+exact z = when (between host_range z) Overflow z
 
--- a value in a range, else 201; a type that is not ordinal has none
+-- a value in a range, else `OutOfRange`; a type that is not ordinal has none
 unfoldable pub in_range : Option (ℤ × ℤ) → ℤ → Checked ℤ
 in_range None z = Passes z
-in_range (Some r) z = unless_error (between r z) 201 z
+in_range (Some r) z = when (between r z) OutOfRange z
 
 -- ---- operators
 
 unfoldable pub quotient : ℤ → ℤ → Checked ℤ
-quotient x y = unless_error (not (equal y (pos 0))) 200 y &> λ y. exact (int_div x y)
+quotient x y = when (not (equal y (pos 0))) BadDivisor y &> λ y. exact (int_div x y)
 
 -- in 0..y-1
 unfoldable pub residue : ℤ → ℤ → ℤ
 residue x y = elim (int_lt (int_rem x y) (pos 0)) [ true ↦ int_rem x y +ℤ y | false ↦ int_rem x y ]
 
 unfoldable pub modulo : Dialect → ℤ → ℤ → Checked ℤ
-modulo Iso x y = unless_error (int_lt (pos 0) y) 200 (residue x y)
-modulo Hp x y = unless_error (int_lt (pos 0) y) 200 (residue x y)
-modulo _ x y = unless_error (not (equal y (pos 0))) 200 (int_rem x y)
+modulo Iso x y = when (int_lt (pos 0) y) BadDivisor (residue x y)
+modulo Hp x y = when (int_lt (pos 0) y) BadDivisor (residue x y)
+modulo _ x y = when (not (equal y (pos 0))) BadDivisor (int_rem x y)
 
 -- two's complement of 64 bits
 unfoldable pub word : ℤ → ℕ
@@ -60,10 +62,10 @@ unfoldable pub power_of_two : ℤ → ℤ
 power_of_two k = pos (2 ^ unsigned_abs k)
 
 unfoldable pub shifted_left : ℤ → ℤ → Checked ℤ
-shifted_left x k = unless_error (between (pos 0, pos 63) k) 203 k &> λ k. exact (x *ℤ power_of_two k)
+shifted_left x k = when (between (pos 0, pos 63) k) Overflow k &> λ k. exact (x *ℤ power_of_two k)
 
 unfoldable pub shifted_right : ℤ → ℤ → Checked ℤ
-shifted_right x k = unless_error (between (pos 0, pos 63) k && int_le (pos 0) x) 203 k &> λ k. Passes (int_div x (power_of_two k))
+shifted_right x k = when (between (pos 0, pos 63) k && int_le (pos 0) x) Overflow k &> λ k. Passes (int_div x (power_of_two k))
 
 unfoldable pub of_bool : Bool → ℤ
 of_bool true = pos 1

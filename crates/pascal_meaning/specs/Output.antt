@@ -5,16 +5,17 @@ use Rattle.p2c_text.specs.declared.dialect.Dialect.TheVariants.{Turbo}
 use Rattle.typed_tree.specs.declared.types.Host.TheVariants.{Whole as WholeHost, Bool as BoolHost}
 use Rattle.typed_tree.specs.declared.types.PasType.{PasType}
 use Rattle.typed_tree.specs.declared.types.PasType.TheVariants.{Ordinal}
+use Rattle.meanings.specs.declared.errors.RuntimeError.TheVariants.{OutOfRange}
 use Rattle.meanings.specs.Values.{Tree, Whole}
 use Rattle.meanings.specs.Outcomes.{Checked, Passes, ◌&>◌}
-use Rattle.pascal_meaning.specs.Numbers.{unless_error, decimal, holds}
+use Rattle.pascal_meaning.specs.Numbers.{when, decimal, holds}
 use Rattle.pascal_meaning.specs.Texts.{Text, Plain, text_of, length_of, read_cells, cells_of, cells}
 
--- a width, else 201; in Turbo every number is one
+-- a width, else `OutOfRange`; in Turbo every number is one
 unfoldable pub width_of : Dialect → Option ℤ → Checked (Option ℤ)
 width_of d None = Passes None
 width_of Turbo (Some k) = Passes (Some k)
-width_of d (Some k) = unless_error (int_lt (pos 0) k) 201 (Some k)
+width_of d (Some k) = when (int_lt (pos 0) k) OutOfRange (Some k)
 
 -- the width as a number of places; below 1 it asks for none
 unfoldable pub places : Option ℤ → ℕ

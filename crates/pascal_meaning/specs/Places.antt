@@ -11,6 +11,7 @@ use Rattle.typed_tree.specs.declared.expressions.Root.{Root}
 use Rattle.typed_tree.specs.declared.expressions.Root.TheVariants as root
 use Rattle.typed_tree.specs.Ranges.{type_at, Range}
 use Rattle.typed_tree.specs.Fields.{Variant, Choice, variants_around, tag_choice}
+use Rattle.meanings.specs.declared.errors.RuntimeError.TheVariants.{NilUse, InactiveVariant}
 use Rattle.meanings.specs.Values.{Tree, Undefined, Whole, SetOf, NilPointer, HeapNumber, ArrayOf, Heap, AtIndex, AtField, Reference}
 use Rattle.meanings.specs.Worlds.{View}
 use Rattle.meanings.specs.Outcomes.{ReadUndefined, Checked, Passes, Fails, Lacks, ◌&>◌}
@@ -18,7 +19,7 @@ use Rattle.meanings.specs.Programs.{Setting, Prog, ◌>>=◌, ◌>>◌, pure, st
 use Rattle.meanings.specs.Names.{find_name}
 use Rattle.meanings.specs.Memory.{base_tree, tree_at, stored, kept, solid_at, slot_place, longer}
 use Rattle.meanings.specs.Fresh.{fresh}
-use Rattle.pascal_meaning.specs.Numbers.{unless_error, in_range, number_of}
+use Rattle.pascal_meaning.specs.Numbers.{when, in_range, number_of}
 use Rattle.pascal_meaning.specs.Sets.{fits_base}
 use Rattle.pascal_meaning.specs.Texts.{text_of, read_text, limited, made, filled}
 
@@ -90,7 +91,7 @@ settled types (g ∷ gs) v = elim (retagged types g.around g.part (first_label g
 
 -- a tag is read, and has to select the variant
 unfoldable pub confirm : Guard → Prog (Unit {0})
-confirm g = ask (λ s v. solid_at v (tree_at v (tag_of g.around g.part))) >>= λ t. check (λ types. unless_error (among g.variant.labels (number_of t)) 205 tt)
+confirm g = ask (λ s v. solid_at v (tree_at v (tag_of g.around g.part))) >>= λ t. check (λ types. when (among g.variant.labels (number_of t)) InactiveVariant tt)
 
 unfoldable pub confirm_all : List Guard → Prog (Unit {0})
 confirm_all [] = pure tt
@@ -176,7 +177,7 @@ index_spot array t p index = of_types (λ types. reach_of types (type_at types a
     check (λ types. in_range (Some r) (number_of index)) >>= λ z. pure (component p t (unsigned_abs (z -ℤ origin reach)))
 
 unfoldable pub pointed : Tree → Checked ℕ
-pointed NilPointer = Fails 202
+pointed NilPointer = Fails NilUse
 pointed (HeapNumber h) = Passes h
 pointed _ = Lacks
 

@@ -2,9 +2,10 @@
 use Rattle.std.specs.Prelude.{ℕ, zero, suc, ◌+◌, ◌-ℤ◌, ℤ, pos, Bool, true, false, not, ◌&&◌, ◌||◌, int_lt, unsigned_abs, List, [], ◌∷◌, replicate, Option, Some, None}
 use Rattle.typed_tree.specs.declared.operations.BinaryOp.{BinaryOp}
 use Rattle.typed_tree.specs.declared.operations.BinaryOp.TheVariants.{Union, Difference, Intersection, Equal, Unequal, LessEq, GreaterEq}
+use Rattle.meanings.specs.declared.errors.RuntimeError.TheVariants.{OutOfRange}
 use Rattle.meanings.specs.Values.{Tree, Whole, SetOf}
 use Rattle.meanings.specs.Outcomes.{Checked, Passes, Lacks, ◌&>◌}
-use Rattle.pascal_meaning.specs.Numbers.{unless_error, between, in_range, of_bool}
+use Rattle.pascal_meaning.specs.Numbers.{when, between, in_range, of_bool}
 
 abbrev pub members : ℤ × ℤ
 members = (pos 0, pos 255)
@@ -73,7 +74,7 @@ unfoldable pub lies_in : ℤ × ℤ → ℕ → List Bool → Bool
 lies_in r n [] = true
 lies_in r n (a ∷ as') = elim (implies a (between r (pos n))) [ true ↦ lies_in r (suc n) as' | false ↦ false ]
 
--- a set for a variable with this range of members, else 201
+-- a set for a variable with this range of members, else `OutOfRange`
 unfoldable pub fits_base : Option (ℤ × ℤ) → List Bool → Checked (List Bool)
 fits_base None s = Passes s
-fits_base (Some r) s = unless_error (lies_in r 0 s) 201 s
+fits_base (Some r) s = when (lies_in r 0 s) OutOfRange s

@@ -15,6 +15,8 @@ use Rattle.typed_tree.specs.declared.operations.UnaryOp.TheVariants as unary
 use Rattle.typed_tree.specs.declared.operations.BinaryOp.{BinaryOp}
 use Rattle.typed_tree.specs.declared.operations.BinaryOp.TheVariants as binary
 use Rattle.typed_tree.specs.Ranges.{type_at, Range}
+use Rattle.meanings.specs.declared.errors.RuntimeError.TheVariants.{NoLabel}
+use Rattle.meanings.specs.Errors.{error_number}
 use Rattle.meanings.specs.Values.{Tree, Undefined, Whole, SetOf, NilPointer, HeapNumber, Reference, RoutineValue}
 use Rattle.meanings.specs.Worlds.{Slot, Refers, Calls}
 use Rattle.meanings.specs.Outcomes.{Cause, Error, Escape, Exit, Goto, Raise, ReadUndefined, Checked, Passes, Fails, Lacks}
@@ -26,7 +28,7 @@ use Rattle.pascal_meaning.specs.Sets.{on_sets, is_member, with_member, with_memb
 use Rattle.pascal_meaning.specs.Texts.{text_of, on_texts}
 use Rattle.pascal_meaning.specs.Places.{Spot, among, plain, place_named, read_spot, store}
 use Rattle.pascal_meaning.specs.Input.{look_ahead}
-use Rattle.pascal_meaning.specs.Calls.{activation_of}
+use Rattle.pascal_meaning.specs.Predefined.{activation_of}
 
 -- ---- operators
 
@@ -201,8 +203,8 @@ for_loop d t down first last body = first >>= λ f. last >>= λ l. variable_spot
 -- ---- case, with and try
 
 unfoldable pub unmatched : Dialect → Checked (Unit {0})
-unmatched Iso = Fails 204
-unmatched Hp = Fails 204
+unmatched Iso = Fails NoLabel
+unmatched Hp = Fails NoLabel
 unmatched _ = Passes tt
 
 -- a `case` with neither a label nor a part for the rest
@@ -227,7 +229,7 @@ raised s (Raise c) = Some (Some c)
 raised s _ = None
 
 unfoldable pub code_of : Cause → ℤ
-code_of (Error e) = neg_ℤ (pos e)
+code_of (Error e) = neg_ℤ (pos (error_number e))
 code_of (Escape n) = n
 
 unfoldable pub recover_from : Prog (Unit {0}) → Option Cause → Prog (Unit {0})

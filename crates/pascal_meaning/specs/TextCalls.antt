@@ -1,12 +1,13 @@
 -- The calls on texts, on the bytes that were read.
 use Rattle.std.specs.Prelude.{ℕ, zero, suc, ◌-◌, ◌-ℤ◌, ◌+ℤ◌, ◌*ℤ◌, ℤ, pos, Bool, true, false, ◌&&◌, nat_eq, int_lt, int_le, unsigned_abs, List, [], ◌∷◌, ◌++◌, length, take, drop, reverse}
+use Rattle.meanings.specs.declared.errors.RuntimeError.TheVariants.{OutOfRange}
 use Rattle.meanings.specs.Outcomes.{Checked, Passes, ◌&>◌}
-use Rattle.pascal_meaning.specs.Numbers.{unless_error, between, host_range}
+use Rattle.pascal_meaning.specs.Numbers.{when, between, host_range}
 use Rattle.pascal_meaning.specs.Input.{is_digit}
 
--- a place from 1 on, counted from 0, else 201
+-- a place from 1 on, counted from 0, else `OutOfRange`
 unfoldable pub place_from : ℤ → Checked ℕ
-place_from i = unless_error (int_lt (pos 0) i) 201 (unsigned_abs (i -ℤ pos 1))
+place_from i = when (int_lt (pos 0) i) OutOfRange (unsigned_abs (i -ℤ pos 1))
 
 -- a number of bytes; below 1 there are none
 unfoldable pub amount : ℤ → ℕ
@@ -23,7 +24,7 @@ deleted s i n = place_from i &> λ k. Passes (take k s ++ drop (amount n) (drop 
 
 -- HP: exactly n bytes, all of which are there
 unfoldable pub part_of : List ℕ → (i n : ℤ) → Checked (List ℕ)
-part_of bs i n = unless_error (int_le (pos 1) i && int_le (pos 0) n && int_le ((i -ℤ pos 1) +ℤ n) (pos (length bs))) 201
+part_of bs i n = when (int_le (pos 1) i && int_le (pos 0) n && int_le ((i -ℤ pos 1) +ℤ n) (pos (length bs))) OutOfRange
     (take (amount n) (drop (unsigned_abs (i -ℤ pos 1)) bs))
 
 unfoldable pub starts_with : (t s : List ℕ) → Bool
@@ -52,7 +53,7 @@ times zero bs = []
 times (suc n) bs = bs ++ times n bs
 
 unfoldable pub repeated : List ℕ → ℤ → Checked (List ℕ)
-repeated bs n = unless_error (int_le (pos 0) n) 201 (unsigned_abs n) &> λ n. Passes (times n bs)
+repeated bs n = when (int_le (pos 0) n) OutOfRange (unsigned_abs n) &> λ n. Passes (times n bs)
 
 unfoldable pub capital : ℤ → ℤ
 capital z = elim (between (pos 97, pos 122) z) [ true ↦ z -ℤ pos 32 | false ↦ z ]

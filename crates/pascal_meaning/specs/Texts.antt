@@ -6,9 +6,10 @@ use Rattle.typed_tree.specs.declared.types.PasType.{PasType}
 use Rattle.typed_tree.specs.declared.types.PasType.TheVariants.{DynString}
 use Rattle.typed_tree.specs.declared.operations.BinaryOp.{BinaryOp}
 use Rattle.typed_tree.specs.declared.operations.BinaryOp.TheVariants.{Join, Equal, Unequal, Less, Greater, LessEq, GreaterEq}
+use Rattle.meanings.specs.declared.errors.RuntimeError.TheVariants.{LongText}
 use Rattle.meanings.specs.Values.{Tree, Whole, ArrayOf, Trees, no_trees, tree}
 use Rattle.meanings.specs.Outcomes.{Checked, Passes, Lacks, ◌&>◌}
-use Rattle.pascal_meaning.specs.Numbers.{unless_error, of_bool}
+use Rattle.pascal_meaning.specs.Numbers.{when, of_bool}
 
 -- a text before its cells are read
 pub data Text : Type 0 where
@@ -39,10 +40,10 @@ unfoldable pub cells_of : Text → Trees
 cells_of (Plain ts) = ts
 cells_of (Dynamic limit c ts) = ts
 
--- the length of a text, for which cell 0 of a dynamic string is read; 207 where it is above the limit
+-- the length of a text, for which cell 0 of a dynamic string is read; `LongText` where it is above the limit
 unfoldable pub length_of : Text → Checked ℕ
 length_of (Plain ts) = Passes (count ts)
-length_of (Dynamic limit c ts) = byte_of c &> λ n. unless_error (nat_le n limit) 207 n
+length_of (Dynamic limit c ts) = byte_of c &> λ n. when (nat_le n limit) LongText n
 
 -- the first n cells
 unfoldable pub read_cells : ℕ → Trees → Checked (List ℕ)
@@ -99,10 +100,10 @@ cells (b ∷ bs) = tree (Whole (pos b)) (cells bs)
 unfoldable pub made : List ℕ → Tree
 made bs = ArrayOf (cells bs)
 
--- a text of at most n bytes: in Turbo a longer one is cut, else it raises 207
+-- a text of at most n bytes: in Turbo a longer one is cut, else it is `LongText`
 unfoldable pub limited : Dialect → ℕ → List ℕ → Checked (List ℕ)
 limited Turbo n bs = Passes (take n bs)
-limited _ n bs = unless_error (nat_le (length bs) n) 207 bs
+limited _ n bs = when (nat_le (length bs) n) LongText bs
 
 -- what an operation makes has at most 255 bytes
 unfoldable pub making : Dialect → Checked (List ℕ) → Checked Tree

@@ -1,6 +1,6 @@
 //! What holds of every program: each statement is the contract of a function that does nothing, so
 //! that a proof elsewhere cites its `ensures`.
-ghost use Rattle.pascal_meaning.specs.Laws.{CutIsExtended, FinalStays};
+ghost use Rattle.pascal_meaning.specs.Laws.{CutIsExtended, FinalStays, TemporariesAreUnseen};
 
 /// A final answer at a bound is the answer at each greater one.
 pub fn final_answer_stays()
@@ -11,4 +11,10 @@ pub fn final_answer_stays()
 /// at each greater bound.
 pub fn cut_answer_is_extended()
     ensures { CutIsExtended }
+{}
+
+/// What a program does is the same whatever temporaries stand beside its variables, and it leaves
+/// them as they are.
+pub fn temporaries_are_unseen()
+    ensures { TemporariesAreUnseen }
 {}

@@ -9,7 +9,8 @@
 //! |---|---|
 //! | `Meaning` | one line for each form of expression and statement; programs |
 //! | `Statements` | operators, set constructors, calls, sequences and gotos, loops, `case`, `with`, `try` |
-//! | `Calls` | the predefined calls, on operands that were evaluated |
+//! | `Predefined` | the predefined calls, on operands that were evaluated |
+//! | `Primitives` | what each `Primitive` does with its operands |
 //! | `Places` | places while they are selected: variants and their tags, indexes, pointers; reading, references, stores |
 //! | `Input`, `Output` | what each reading takes and leaves; the bytes of a written value |
 //! | `Texts`, `TextCalls` | which cells of a text are read and in which order; the calls on texts |
@@ -17,7 +18,9 @@
 //!
 //! A check is a function of the types alone, `Types → Checked X`, and says which error it raises. What
 //! sees the world is made of the combinators of the crate `meanings`; `proofs/Steps` and
-//! `proofs/Trees` carry any judgement that these keep to every statement.
+//! `proofs/Trees` carry any judgement that these keep to every primitive and every statement. The
+//! definitions go by the rows of which a tree consists; `proofs/ExpressionViews` and
+//! `proofs/StatementViews` say the same at the constructors as programs see them.
 //!
 //! # How trees are read
 //!
@@ -25,8 +28,12 @@
 //!   carries its type.
 //! - An argument of a predefined call is a `Reference` where the call changes it, `Written` where it
 //!   is written, as the number of Turbo's `str`, else a `Value`. The array from which `pack` copies is
-//!   a `Value`, and so is the one from which `unpack` copies. A file stands among no arguments.
-//! - What does not fit its type means the read of something undefined.
+//!   a `Value`, and so is the one from which `unpack` copies. The string of `strmax` may be either. A
+//!   file stands among no arguments.
+//! - A tree that does not fit its types has some meaning too, of which nothing is promised.
 #![tactic(auto)]
 
 pub mod laws;
+mod operations;
+
+pub use operations::Primitive;

@@ -144,8 +144,9 @@ letter b = X.Number (pos b) char
 abbrev pub truth : ℕ → TypedExpr
 truth n = X.Number (pos n) boolean
 
-abbrev pub quoted : List ℕ → TypedExpr
-quoted bs = X.TextConst bs text
+-- a literal, with its type
+abbrev pub quoted : ℕ → List ℕ → TypedExpr
+quoted t bs = X.TextConst bs t
 
 abbrev pub unary : (type : ℕ) → UnaryOp → TypedExpr → TypedExpr
 unary t op e = X.Unary' op tt (X.more_of-TypedExpr e X.end_of-TypedExpr) t
@@ -165,8 +166,8 @@ outcome d t = root.Outcome d t
 abbrev pub call : Callee → List TypedArg → ℕ → TypedExpr
 call c args t = X.Call' c (units args) (argument_row args) t
 
-abbrev pub set : List Listed → TypedExpr
-set xs = X.SetOf' (units xs) (element_row xs) own
+abbrev pub set : ℕ → List Listed → TypedExpr
+set t xs = X.SetOf' (units xs) (element_row xs) t
 
 abbrev pub predefined : PredefCall → List TypedArg → ℕ → TypedExpr
 predefined c args t = X.Predefined' c (units args) (argument_row args) t

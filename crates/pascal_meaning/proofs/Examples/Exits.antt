@@ -2,6 +2,7 @@
 use Rattle.std.proofs.Common.{◌≡◌, [], ◌∷◌, refl, false}
 use Rattle.std.specs.Prelude.{codes}
 use Rattle.p2c_text.specs.declared.dialect.Dialect.TheVariants.{Iso, Turbo, Ucsd, Hp}
+use Rattle.typed_tree.specs.declared.types.PasType.TheVariants.{Literal}
 use Rattle.typed_tree.specs.declared.declarations.Callee.TheVariants.{Routine as CalleeRoutine, Formal}
 use Rattle.typed_tree.specs.declared.declarations.Owner.TheVariants as Owner
 use Rattle.typed_tree.specs.declared.declarations.Owner.TheVariants.{Program}
@@ -25,12 +26,12 @@ unfolding run
 exit_of_the_statically_enclosing_activation = refl
 
 -- procedure p; begin write('p'); exit(program) end; begin p; write('no') end.
-exit_of_the_program : run (whole Ucsd [] (procedure 1 Program [] [] [] (perform call.Write (shown (letter 112) ∷ []) ∷ perform call.ExitProgram [] ∷ []) ∷ []) [] [] [] (S.Call (CalleeRoutine 1) [] ∷ perform call.Write (shown (quoted (codes "no")) ∷ []) ∷ [])) [] 1 ≡ End (codes "p") 0 (1 ∷ [])
+exit_of_the_program : run (whole Ucsd (Literal 2 ∷ []) (procedure 1 Program [] [] [] (perform call.Write (shown (letter 112) ∷ []) ∷ perform call.ExitProgram [] ∷ []) ∷ []) [] [] [] (S.Call (CalleeRoutine 1) [] ∷ perform call.Write (shown (quoted 5 (codes "no")) ∷ []) ∷ [])) [] 1 ≡ End (codes "p") 0 (1 ∷ [])
 unfolding run
 exit_of_the_program = refl
 
 -- procedure p(n: integer); begin write('a'); if n = 1 then exit; write('b') end; begin p(1); p(2); exit; write('no') end.
-exit_of_the_routine : run (whole Turbo [] (procedure 1 Program (section small (1 ∷ []) ∷ []) [] [] (perform call.Write (shown (letter 97) ∷ []) ∷ if_then (chain (read (variable 1 small) []) ((op.Equal, num 1, boolean) ∷ [])) (perform call.Exit []) ∷ perform call.Write (shown (letter 98) ∷ []) ∷ []) ∷ []) [] [] [] (S.Call (CalleeRoutine 1) (value_for small (num 1) ∷ []) ∷ S.Call (CalleeRoutine 1) (value_for small (num 2) ∷ []) ∷ perform call.Exit [] ∷ perform call.Write (shown (quoted (codes "no")) ∷ []) ∷ [])) [] 2 ≡ End (codes "aab") 0 (1 ∷ 1 ∷ [])
+exit_of_the_routine : run (whole Turbo (Literal 2 ∷ []) (procedure 1 Program (section small (1 ∷ []) ∷ []) [] [] (perform call.Write (shown (letter 97) ∷ []) ∷ if_then (chain (read (variable 1 small) []) ((op.Equal, num 1, boolean) ∷ [])) (perform call.Exit []) ∷ perform call.Write (shown (letter 98) ∷ []) ∷ []) ∷ []) [] [] [] (S.Call (CalleeRoutine 1) (value_for small (num 1) ∷ []) ∷ S.Call (CalleeRoutine 1) (value_for small (num 2) ∷ []) ∷ perform call.Exit [] ∷ perform call.Write (shown (quoted 5 (codes "no")) ∷ []) ∷ [])) [] 2 ≡ End (codes "aab") 0 (1 ∷ 1 ∷ [])
 unfolding run
 exit_of_the_routine = refl
 
@@ -51,12 +52,12 @@ unfolding run
 escape_out_of_range = refl
 
 -- procedure p; begin try halt(4) recover write('no') end; begin p end.
-halt_passes_a_try : run (whole Hp [] (procedure 1 Program [] [] [] (try (perform call.Halt (value_for integer (num 4) ∷ []) ∷ []) (perform call.Write (shown (quoted (codes "no")) ∷ [])) ∷ []) ∷ []) [] [] [] (S.Call (CalleeRoutine 1) [] ∷ [])) [] 1 ≡ End [] 4 (1 ∷ [])
+halt_passes_a_try : run (whole Hp (Literal 2 ∷ []) (procedure 1 Program [] [] [] (try (perform call.Halt (value_for integer (num 4) ∷ []) ∷ []) (perform call.Write (shown (quoted 5 (codes "no")) ∷ [])) ∷ []) ∷ []) [] [] [] (S.Call (CalleeRoutine 1) [] ∷ [])) [] 1 ≡ End [] 4 (1 ∷ [])
 unfolding run
 halt_passes_a_try = refl
 
 -- procedure p; begin write('p'); halt end; begin p; write('no') end.
-halt_without_a_number : InEach (Turbo ∷ Ucsd ∷ Hp ∷ []) (λ d. whole d [] (procedure 1 Program [] [] [] (perform call.Write (shown (letter 112) ∷ []) ∷ perform call.Halt [] ∷ []) ∷ []) [] [] [] (S.Call (CalleeRoutine 1) [] ∷ perform call.Write (shown (quoted (codes "no")) ∷ []) ∷ [])) [] 1 (End (codes "p") 0 (1 ∷ []))
+halt_without_a_number : InEach (Turbo ∷ Ucsd ∷ Hp ∷ []) (λ d. whole d (Literal 2 ∷ []) (procedure 1 Program [] [] [] (perform call.Write (shown (letter 112) ∷ []) ∷ perform call.Halt [] ∷ []) ∷ []) [] [] [] (S.Call (CalleeRoutine 1) [] ∷ perform call.Write (shown (quoted 5 (codes "no")) ∷ []) ∷ [])) [] 1 (End (codes "p") 0 (1 ∷ []))
 unfolding run
 halt_without_a_number = (refl, (refl, (refl, tt)))
 
@@ -80,11 +81,11 @@ unfolding run
 goto_is_cut_in_turbo_and_ucsd = (refl, (refl, tt))
 
 -- label 1; var i: integer; begin for i := 1 to 9 do begin write(i); if i = 2 then goto 1 end; write('no'); 1: write('out') end.
-goto_leaves_loops_in_iso_and_hp : InEach (Iso ∷ Hp ∷ []) (λ d. whole d [] [] [] (of_type integer 2 ∷ []) (1 ∷ []) (for_of integer 2 false (num 1) (num 9) (seq (perform call.Write (shown (read (variable 2 integer) []) ∷ []) ∷ if_then (chain (read (variable 2 integer) []) ((op.Equal, num 2, boolean) ∷ [])) (S.Goto 1) ∷ [])) ∷ perform call.Write (shown (quoted (codes "no")) ∷ []) ∷ labelled 1 (perform call.Write (shown (quoted (codes "out")) ∷ [])) ∷ [])) [] 3 (End (codes "12out") 0 [])
+goto_leaves_loops_in_iso_and_hp : InEach (Iso ∷ Hp ∷ []) (λ d. whole d (Literal 2 ∷ Literal 3 ∷ []) [] [] (of_type integer 2 ∷ []) (1 ∷ []) (for_of integer 2 false (num 1) (num 9) (seq (perform call.Write (shown (read (variable 2 integer) []) ∷ []) ∷ if_then (chain (read (variable 2 integer) []) ((op.Equal, num 2, boolean) ∷ [])) (S.Goto 1) ∷ [])) ∷ perform call.Write (shown (quoted 5 (codes "no")) ∷ []) ∷ labelled 1 (perform call.Write (shown (quoted 6 (codes "out")) ∷ [])) ∷ [])) [] 3 (End (codes "12out") 0 [])
 unfolding run
 goto_leaves_loops_in_iso_and_hp = (refl, (refl, tt))
 
-goto_leaves_loops_in_turbo_and_ucsd : InEach (Turbo ∷ Ucsd ∷ []) (λ d. whole d [] [] [] (of_type small 2 ∷ []) (1 ∷ []) (for_of small 2 false (num 1) (num 9) (seq (perform call.Write (shown (read (variable 2 small) []) ∷ []) ∷ if_then (chain (read (variable 2 small) []) ((op.Equal, num 2, boolean) ∷ [])) (S.Goto 1) ∷ [])) ∷ perform call.Write (shown (quoted (codes "no")) ∷ []) ∷ labelled 1 (perform call.Write (shown (quoted (codes "out")) ∷ [])) ∷ [])) [] 3 (End (codes "12out") 0 [])
+goto_leaves_loops_in_turbo_and_ucsd : InEach (Turbo ∷ Ucsd ∷ []) (λ d. whole d (Literal 2 ∷ Literal 3 ∷ []) [] [] (of_type small 2 ∷ []) (1 ∷ []) (for_of small 2 false (num 1) (num 9) (seq (perform call.Write (shown (read (variable 2 small) []) ∷ []) ∷ if_then (chain (read (variable 2 small) []) ((op.Equal, num 2, boolean) ∷ [])) (S.Goto 1) ∷ [])) ∷ perform call.Write (shown (quoted 5 (codes "no")) ∷ []) ∷ labelled 1 (perform call.Write (shown (quoted 6 (codes "out")) ∷ [])) ∷ [])) [] 3 (End (codes "12out") 0 [])
 unfolding run
 goto_leaves_loops_in_turbo_and_ucsd = (refl, (refl, tt))
 
@@ -108,16 +109,16 @@ unfolding run
 goto_within_a_loop_in_turbo_and_ucsd = (refl, (refl, tt))
 
 -- label 1; var i: integer; function f: integer; begin f := 1; goto 1 end; begin i := 5; i := f; write('no'); 1: write(i) end.
-goto_out_of_a_function_in_iso_and_hp : InEach (Iso ∷ Hp ∷ []) (λ d. whole d [] (function 1 Program [] (of_type integer 3) [] (assign_to integer (outcome 3 integer) [] (num 1) ∷ S.Goto 1 ∷ []) ∷ []) [] (of_type integer 2 ∷ []) (1 ∷ []) (assign_to integer (variable 2 integer) [] (num 5) ∷ assign_to integer (variable 2 integer) [] (call (CalleeRoutine 1) [] integer) ∷ perform call.Write (shown (quoted (codes "no")) ∷ []) ∷ labelled 1 (perform call.Write (shown (read (variable 2 integer) []) ∷ [])) ∷ [])) [] 2 (End (codes "5") 0 (1 ∷ []))
+goto_out_of_a_function_in_iso_and_hp : InEach (Iso ∷ Hp ∷ []) (λ d. whole d (Literal 2 ∷ []) (function 1 Program [] (of_type integer 3) [] (assign_to integer (outcome 3 integer) [] (num 1) ∷ S.Goto 1 ∷ []) ∷ []) [] (of_type integer 2 ∷ []) (1 ∷ []) (assign_to integer (variable 2 integer) [] (num 5) ∷ assign_to integer (variable 2 integer) [] (call (CalleeRoutine 1) [] integer) ∷ perform call.Write (shown (quoted 5 (codes "no")) ∷ []) ∷ labelled 1 (perform call.Write (shown (read (variable 2 integer) []) ∷ [])) ∷ [])) [] 2 (End (codes "5") 0 (1 ∷ []))
 unfolding run
 goto_out_of_a_function_in_iso_and_hp = (refl, (refl, tt))
 
-goto_out_of_a_function_in_turbo_and_ucsd : InEach (Turbo ∷ Ucsd ∷ []) (λ d. whole d [] (function 1 Program [] (of_type small 3) [] (assign_to small (outcome 3 small) [] (num 1) ∷ S.Goto 1 ∷ []) ∷ []) [] (of_type small 2 ∷ []) (1 ∷ []) (assign_to small (variable 2 small) [] (num 5) ∷ assign_to small (variable 2 small) [] (call (CalleeRoutine 1) [] small) ∷ perform call.Write (shown (quoted (codes "no")) ∷ []) ∷ labelled 1 (perform call.Write (shown (read (variable 2 small) []) ∷ [])) ∷ [])) [] 2 (End (codes "5") 0 (1 ∷ []))
+goto_out_of_a_function_in_turbo_and_ucsd : InEach (Turbo ∷ Ucsd ∷ []) (λ d. whole d (Literal 2 ∷ []) (function 1 Program [] (of_type small 3) [] (assign_to small (outcome 3 small) [] (num 1) ∷ S.Goto 1 ∷ []) ∷ []) [] (of_type small 2 ∷ []) (1 ∷ []) (assign_to small (variable 2 small) [] (num 5) ∷ assign_to small (variable 2 small) [] (call (CalleeRoutine 1) [] small) ∷ perform call.Write (shown (quoted 5 (codes "no")) ∷ []) ∷ labelled 1 (perform call.Write (shown (read (variable 2 small) []) ∷ [])) ∷ [])) [] 2 (End (codes "5") 0 (1 ∷ []))
 unfolding run
 goto_out_of_a_function_in_turbo_and_ucsd = (refl, (refl, tt))
 
 -- begin try write('a'); write('b') recover write('no'); write(escapecode) end.
-try_without_a_raise : run (whole Hp [] [] [] [] [] (try (perform call.Write (shown (letter 97) ∷ []) ∷ perform call.Write (shown (letter 98) ∷ []) ∷ []) (perform call.Write (shown (quoted (codes "no")) ∷ [])) ∷ perform call.Write (shown (predefined call.EscapeCode [] integer) ∷ []) ∷ [])) [] 0 ≡ End (codes "ab0") 0 []
+try_without_a_raise : run (whole Hp (Literal 2 ∷ []) [] [] [] [] (try (perform call.Write (shown (letter 97) ∷ []) ∷ perform call.Write (shown (letter 98) ∷ []) ∷ []) (perform call.Write (shown (quoted 5 (codes "no")) ∷ [])) ∷ perform call.Write (shown (predefined call.EscapeCode [] integer) ∷ []) ∷ [])) [] 0 ≡ End (codes "ab0") 0 []
 unfolding run
 try_without_a_raise = refl
 

@@ -2,7 +2,7 @@
 use Rattle.std.proofs.Common.{[], ◌∷◌, refl, false, Some, None}
 use Rattle.std.specs.Prelude.{codes, pos}
 use Rattle.p2c_text.specs.declared.dialect.Dialect.TheVariants.{Iso, Turbo, Ucsd, Hp}
-use Rattle.typed_tree.specs.declared.types.PasType.TheVariants.{Pointer, RecordOf}
+use Rattle.typed_tree.specs.declared.types.PasType.TheVariants.{Pointer, Literal, RecordOf}
 use Rattle.typed_tree.specs.declared.declarations.Callee.TheVariants.{Routine as CalleeRoutine}
 use Rattle.typed_tree.specs.declared.declarations.Owner.TheVariants.{Program}
 use Rattle.typed_tree.specs.declared.expressions.Root.TheVariants as root
@@ -92,21 +92,21 @@ pointer_is_read_again_where_it_is_compared_in_turbo_and_ucsd = (refl, (refl, tt)
 
 -- before the routine is entered
 -- type t = ^integer; var p: t; function f: integer; begin dispose(p); f := 1 end; procedure q(a: t; n: integer); begin write('no') end; begin new(p); write('x'); q(p, f) end.
-pointer_argument_is_read_again_in_iso_and_hp : InEach (Iso ∷ Hp ∷ []) (λ d. whole d (Pointer integer ∷ []) (function 1 Program [] (of_type integer 2) [] (perform call.Dispose (value_for 5 (read (variable 1 5) []) ∷ []) ∷ assign_to integer (outcome 2 integer) [] (num 1) ∷ []) ∷ procedure 2 Program (section 5 (3 ∷ []) ∷ section integer (4 ∷ []) ∷ []) [] [] (perform call.Write (shown (quoted (codes "no")) ∷ []) ∷ []) ∷ []) [] (of_type 5 1 ∷ []) [] (perform call.New (by_reference (variable 1 5) [] ∷ []) ∷ perform call.Write (shown (letter 120) ∷ []) ∷ S.Call (CalleeRoutine 2) (value_for 5 (read (variable 1 5) []) ∷ value_for integer (call (CalleeRoutine 1) [] integer) ∷ []) ∷ [])) [] 2 (UndefinedAfter (codes "x") (1 ∷ []))
+pointer_argument_is_read_again_in_iso_and_hp : InEach (Iso ∷ Hp ∷ []) (λ d. whole d (Pointer integer ∷ Literal 2 ∷ []) (function 1 Program [] (of_type integer 2) [] (perform call.Dispose (value_for 5 (read (variable 1 5) []) ∷ []) ∷ assign_to integer (outcome 2 integer) [] (num 1) ∷ []) ∷ procedure 2 Program (section 5 (3 ∷ []) ∷ section integer (4 ∷ []) ∷ []) [] [] (perform call.Write (shown (quoted 6 (codes "no")) ∷ []) ∷ []) ∷ []) [] (of_type 5 1 ∷ []) [] (perform call.New (by_reference (variable 1 5) [] ∷ []) ∷ perform call.Write (shown (letter 120) ∷ []) ∷ S.Call (CalleeRoutine 2) (value_for 5 (read (variable 1 5) []) ∷ value_for integer (call (CalleeRoutine 1) [] integer) ∷ []) ∷ [])) [] 2 (UndefinedAfter (codes "x") (1 ∷ []))
 unfolding run
 pointer_argument_is_read_again_in_iso_and_hp = (refl, (refl, tt))
 
-pointer_argument_is_read_again_in_turbo_and_ucsd : InEach (Turbo ∷ Ucsd ∷ []) (λ d. whole d (Pointer small ∷ []) (function 1 Program [] (of_type small 2) [] (perform call.Dispose (value_for 5 (read (variable 1 5) []) ∷ []) ∷ assign_to small (outcome 2 small) [] (num 1) ∷ []) ∷ procedure 2 Program (section 5 (3 ∷ []) ∷ section small (4 ∷ []) ∷ []) [] [] (perform call.Write (shown (quoted (codes "no")) ∷ []) ∷ []) ∷ []) [] (of_type 5 1 ∷ []) [] (perform call.New (by_reference (variable 1 5) [] ∷ []) ∷ perform call.Write (shown (letter 120) ∷ []) ∷ S.Call (CalleeRoutine 2) (value_for 5 (read (variable 1 5) []) ∷ value_for small (call (CalleeRoutine 1) [] small) ∷ []) ∷ [])) [] 2 (UndefinedAfter (codes "x") (1 ∷ []))
+pointer_argument_is_read_again_in_turbo_and_ucsd : InEach (Turbo ∷ Ucsd ∷ []) (λ d. whole d (Pointer small ∷ Literal 2 ∷ []) (function 1 Program [] (of_type small 2) [] (perform call.Dispose (value_for 5 (read (variable 1 5) []) ∷ []) ∷ assign_to small (outcome 2 small) [] (num 1) ∷ []) ∷ procedure 2 Program (section 5 (3 ∷ []) ∷ section small (4 ∷ []) ∷ []) [] [] (perform call.Write (shown (quoted 6 (codes "no")) ∷ []) ∷ []) ∷ []) [] (of_type 5 1 ∷ []) [] (perform call.New (by_reference (variable 1 5) [] ∷ []) ∷ perform call.Write (shown (letter 120) ∷ []) ∷ S.Call (CalleeRoutine 2) (value_for 5 (read (variable 1 5) []) ∷ value_for small (call (CalleeRoutine 1) [] small) ∷ []) ∷ [])) [] 2 (UndefinedAfter (codes "x") (1 ∷ []))
 unfolding run
 pointer_argument_is_read_again_in_turbo_and_ucsd = (refl, (refl, tt))
 
 -- before the routine is entered
 -- type t = ^integer; var p: t; function f: integer; begin dispose(p); f := 1 end; procedure q(var a: integer; n: integer); begin write('no') end; begin new(p); write('x'); q(p^, f) end.
-reference_argument_into_a_disposed_variable_in_iso_and_hp : InEach (Iso ∷ Hp ∷ []) (λ d. whole d (Pointer integer ∷ []) (function 1 Program [] (of_type integer 2) [] (perform call.Dispose (value_for 5 (read (variable 1 5) []) ∷ []) ∷ assign_to integer (outcome 2 integer) [] (num 1) ∷ []) ∷ procedure 2 Program (section_var integer (3 ∷ []) ∷ section integer (4 ∷ []) ∷ []) [] [] (perform call.Write (shown (quoted (codes "no")) ∷ []) ∷ []) ∷ []) [] (of_type 5 1 ∷ []) [] (perform call.New (by_reference (variable 1 5) [] ∷ []) ∷ perform call.Write (shown (letter 120) ∷ []) ∷ S.Call (CalleeRoutine 2) (by_reference (variable 1 5) (selector.Follow integer ∷ []) ∷ value_for integer (call (CalleeRoutine 1) [] integer) ∷ []) ∷ [])) [] 2 (UndefinedAfter (codes "x") (1 ∷ []))
+reference_argument_into_a_disposed_variable_in_iso_and_hp : InEach (Iso ∷ Hp ∷ []) (λ d. whole d (Pointer integer ∷ Literal 2 ∷ []) (function 1 Program [] (of_type integer 2) [] (perform call.Dispose (value_for 5 (read (variable 1 5) []) ∷ []) ∷ assign_to integer (outcome 2 integer) [] (num 1) ∷ []) ∷ procedure 2 Program (section_var integer (3 ∷ []) ∷ section integer (4 ∷ []) ∷ []) [] [] (perform call.Write (shown (quoted 6 (codes "no")) ∷ []) ∷ []) ∷ []) [] (of_type 5 1 ∷ []) [] (perform call.New (by_reference (variable 1 5) [] ∷ []) ∷ perform call.Write (shown (letter 120) ∷ []) ∷ S.Call (CalleeRoutine 2) (by_reference (variable 1 5) (selector.Follow integer ∷ []) ∷ value_for integer (call (CalleeRoutine 1) [] integer) ∷ []) ∷ [])) [] 2 (UndefinedAfter (codes "x") (1 ∷ []))
 unfolding run
 reference_argument_into_a_disposed_variable_in_iso_and_hp = (refl, (refl, tt))
 
-reference_argument_into_a_disposed_variable_in_turbo_and_ucsd : InEach (Turbo ∷ Ucsd ∷ []) (λ d. whole d (Pointer small ∷ []) (function 1 Program [] (of_type small 2) [] (perform call.Dispose (value_for 5 (read (variable 1 5) []) ∷ []) ∷ assign_to small (outcome 2 small) [] (num 1) ∷ []) ∷ procedure 2 Program (section_var small (3 ∷ []) ∷ section small (4 ∷ []) ∷ []) [] [] (perform call.Write (shown (quoted (codes "no")) ∷ []) ∷ []) ∷ []) [] (of_type 5 1 ∷ []) [] (perform call.New (by_reference (variable 1 5) [] ∷ []) ∷ perform call.Write (shown (letter 120) ∷ []) ∷ S.Call (CalleeRoutine 2) (by_reference (variable 1 5) (selector.Follow small ∷ []) ∷ value_for small (call (CalleeRoutine 1) [] small) ∷ []) ∷ [])) [] 2 (UndefinedAfter (codes "x") (1 ∷ []))
+reference_argument_into_a_disposed_variable_in_turbo_and_ucsd : InEach (Turbo ∷ Ucsd ∷ []) (λ d. whole d (Pointer small ∷ Literal 2 ∷ []) (function 1 Program [] (of_type small 2) [] (perform call.Dispose (value_for 5 (read (variable 1 5) []) ∷ []) ∷ assign_to small (outcome 2 small) [] (num 1) ∷ []) ∷ procedure 2 Program (section_var small (3 ∷ []) ∷ section small (4 ∷ []) ∷ []) [] [] (perform call.Write (shown (quoted 6 (codes "no")) ∷ []) ∷ []) ∷ []) [] (of_type 5 1 ∷ []) [] (perform call.New (by_reference (variable 1 5) [] ∷ []) ∷ perform call.Write (shown (letter 120) ∷ []) ∷ S.Call (CalleeRoutine 2) (by_reference (variable 1 5) (selector.Follow small ∷ []) ∷ value_for small (call (CalleeRoutine 1) [] small) ∷ []) ∷ [])) [] 2 (UndefinedAfter (codes "x") (1 ∷ []))
 unfolding run
 reference_argument_into_a_disposed_variable_in_turbo_and_ucsd = (refl, (refl, tt))
 

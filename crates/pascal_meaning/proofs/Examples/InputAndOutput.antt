@@ -3,7 +3,7 @@ use Rattle.std.proofs.Common.{◌≡◌, [], ◌∷◌, ◌++◌, refl, true, fa
 use Rattle.std.specs.Prelude.{codes, pos}
 use Rattle.p2c_text.specs.declared.dialect.Dialect.TheVariants.{Iso, Turbo, Ucsd, Hp}
 use Rattle.typed_tree.specs.declared.types.Host.TheVariants.{Whole as WholeHost, Char as CharHost}
-use Rattle.typed_tree.specs.declared.types.PasType.TheVariants.{Ordinal, Array, DynString}
+use Rattle.typed_tree.specs.declared.types.PasType.TheVariants.{Ordinal, Array, DynString, Literal}
 use Rattle.typed_tree.specs.declared.declarations.Callee.TheVariants.{Routine as CalleeRoutine}
 use Rattle.typed_tree.specs.declared.declarations.Owner.TheVariants.{Program}
 use Rattle.typed_tree.specs.declared.expressions.Root.TheVariants as root
@@ -156,11 +156,11 @@ unfolding run
 widths_in_turbo = refl
 
 -- begin write(-5:4, 'a':3, true:6, 'ab':3, 12345:2) end.
-spaces_fill_on_the_left_in_iso_and_hp : InEach (Iso ∷ Hp ∷ []) (λ d. whole d [] [] [] [] [] (perform call.Write (wide (unary integer un.Minus (num 5)) (num 4) ∷ wide (letter 97) (num 3) ∷ wide (truth 1) (num 6) ∷ wide (quoted (codes "ab")) (num 3) ∷ wide (num 12345) (num 2) ∷ []) ∷ [])) [] 0 (End (codes "  -5  a  TRUE ab12345") 0 [])
+spaces_fill_on_the_left_in_iso_and_hp : InEach (Iso ∷ Hp ∷ []) (λ d. whole d (Literal 2 ∷ []) [] [] [] [] (perform call.Write (wide (unary integer un.Minus (num 5)) (num 4) ∷ wide (letter 97) (num 3) ∷ wide (truth 1) (num 6) ∷ wide (quoted 5 (codes "ab")) (num 3) ∷ wide (num 12345) (num 2) ∷ []) ∷ [])) [] 0 (End (codes "  -5  a  TRUE ab12345") 0 [])
 unfolding run
 spaces_fill_on_the_left_in_iso_and_hp = (refl, (refl, tt))
 
-spaces_fill_on_the_left_in_turbo_and_ucsd : InEach (Turbo ∷ Ucsd ∷ []) (λ d. whole d [] [] [] [] [] (perform call.Write (wide (unary small un.Minus (num 5)) (num 4) ∷ wide (letter 97) (num 3) ∷ wide (truth 1) (num 6) ∷ wide (quoted (codes "ab")) (num 3) ∷ wide (num 12345) (num 2) ∷ []) ∷ [])) [] 0 (End (codes "  -5  a  TRUE ab12345") 0 [])
+spaces_fill_on_the_left_in_turbo_and_ucsd : InEach (Turbo ∷ Ucsd ∷ []) (λ d. whole d (Literal 2 ∷ []) [] [] [] [] (perform call.Write (wide (unary small un.Minus (num 5)) (num 4) ∷ wide (letter 97) (num 3) ∷ wide (truth 1) (num 6) ∷ wide (quoted 5 (codes "ab")) (num 3) ∷ wide (num 12345) (num 2) ∷ []) ∷ [])) [] 0 (End (codes "  -5  a  TRUE ab12345") 0 [])
 unfolding run
 spaces_fill_on_the_left_in_turbo_and_ucsd = (refl, (refl, tt))
 

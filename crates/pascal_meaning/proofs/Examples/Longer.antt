@@ -3,7 +3,8 @@ use Rattle.std.proofs.Common.{[], ◌∷◌, ◌++◌, refl, false, Some, None}
 use Rattle.std.specs.Prelude.{codes, pos, negsuc}
 use Rattle.p2c_text.specs.declared.dialect.Dialect.TheVariants.{Iso, Turbo, Ucsd, Hp}
 use Rattle.typed_tree.specs.declared.types.Host.TheVariants.{Whole as WholeHost}
-use Rattle.typed_tree.specs.declared.types.PasType.TheVariants.{Ordinal, Array}
+use Rattle.typed_tree.specs.declared.types.Packing.TheVariants.{Either}
+use Rattle.typed_tree.specs.declared.types.PasType.TheVariants.{Ordinal, Array, SetOf as SetType}
 use Rattle.typed_tree.specs.declared.declarations.Callee.TheVariants.{Routine as CalleeRoutine}
 use Rattle.typed_tree.specs.declared.declarations.Owner.TheVariants.{Program}
 use Rattle.typed_tree.specs.declared.expressions.Selector.TheVariants as selector
@@ -46,10 +47,10 @@ words_are_counted_in_turbo_and_ucsd = (refl, (refl, tt))
 
 -- a set as a sieve
 -- var s: set of 2..30; i, j: integer; begin s := [2..30]; for i := 2 to 30 do if i in s then begin write(i, ' '); j := i; while j <= 30 do begin s := s - [j]; j := j + i end end end.
-primes_in_iso_and_hp : InEach (Iso ∷ Hp ∷ []) (λ d. whole d (Ordinal WholeHost (pos 2) (pos 30) ∷ set_of 5 ∷ []) [] [] (of_type 6 1 ∷ of_type integer 2 ∷ of_type integer 3 ∷ []) [] (assign_to 6 (variable 1 6) [] (set ((num 2, Some (num 30)) ∷ [])) ∷ for_of integer 2 false (num 2) (num 30) (if_then (chain (read (variable 2 integer) []) ((op.Member, read (variable 1 6) [], boolean) ∷ [])) (seq (perform call.Write (shown (read (variable 2 integer) []) ∷ shown (letter 32) ∷ []) ∷ assign_to integer (variable 3 integer) [] (read (variable 2 integer) []) ∷ while (chain (read (variable 3 integer) []) ((op.LessEq, num 30, boolean) ∷ [])) (seq (assign_to 6 (variable 1 6) [] (chain (read (variable 1 6) []) ((op.Difference, set ((read (variable 3 integer) [], None) ∷ []), 6) ∷ [])) ∷ assign_to integer (variable 3 integer) [] (chain (read (variable 3 integer) []) ((op.Add, read (variable 2 integer) [], integer) ∷ [])) ∷ [])) ∷ []))) ∷ [])) [] 50 (End (codes "2 3 5 7 11 13 17 19 23 29 ") 0 [])
+primes_in_iso_and_hp : InEach (Iso ∷ Hp ∷ []) (λ d. whole d (Ordinal WholeHost (pos 2) (pos 30) ∷ set_of 5 ∷ SetType Either (Some integer) ∷ []) [] [] (of_type 6 1 ∷ of_type integer 2 ∷ of_type integer 3 ∷ []) [] (assign_to 6 (variable 1 6) [] (set 7 ((num 2, Some (num 30)) ∷ [])) ∷ for_of integer 2 false (num 2) (num 30) (if_then (chain (read (variable 2 integer) []) ((op.Member, read (variable 1 6) [], boolean) ∷ [])) (seq (perform call.Write (shown (read (variable 2 integer) []) ∷ shown (letter 32) ∷ []) ∷ assign_to integer (variable 3 integer) [] (read (variable 2 integer) []) ∷ while (chain (read (variable 3 integer) []) ((op.LessEq, num 30, boolean) ∷ [])) (seq (assign_to 6 (variable 1 6) [] (chain (read (variable 1 6) []) ((op.Difference, set 7 ((read (variable 3 integer) [], None) ∷ []), 6) ∷ [])) ∷ assign_to integer (variable 3 integer) [] (chain (read (variable 3 integer) []) ((op.Add, read (variable 2 integer) [], integer) ∷ [])) ∷ [])) ∷ []))) ∷ [])) [] 50 (End (codes "2 3 5 7 11 13 17 19 23 29 ") 0 [])
 unfolding run
 primes_in_iso_and_hp = (refl, (refl, tt))
 
-primes_in_turbo_and_ucsd : InEach (Turbo ∷ Ucsd ∷ []) (λ d. whole d (Ordinal WholeHost (pos 2) (pos 30) ∷ set_of 5 ∷ []) [] [] (of_type 6 1 ∷ of_type small 2 ∷ of_type small 3 ∷ []) [] (assign_to 6 (variable 1 6) [] (set ((num 2, Some (num 30)) ∷ [])) ∷ for_of small 2 false (num 2) (num 30) (if_then (chain (read (variable 2 small) []) ((op.Member, read (variable 1 6) [], boolean) ∷ [])) (seq (perform call.Write (shown (read (variable 2 small) []) ∷ shown (letter 32) ∷ []) ∷ assign_to small (variable 3 small) [] (read (variable 2 small) []) ∷ while (chain (read (variable 3 small) []) ((op.LessEq, num 30, boolean) ∷ [])) (seq (assign_to 6 (variable 1 6) [] (chain (read (variable 1 6) []) ((op.Difference, set ((read (variable 3 small) [], None) ∷ []), 6) ∷ [])) ∷ assign_to small (variable 3 small) [] (chain (read (variable 3 small) []) ((op.Add, read (variable 2 small) [], small) ∷ [])) ∷ [])) ∷ []))) ∷ [])) [] 50 (End (codes "2 3 5 7 11 13 17 19 23 29 ") 0 [])
+primes_in_turbo_and_ucsd : InEach (Turbo ∷ Ucsd ∷ []) (λ d. whole d (Ordinal WholeHost (pos 2) (pos 30) ∷ set_of 5 ∷ SetType Either (Some small) ∷ []) [] [] (of_type 6 1 ∷ of_type small 2 ∷ of_type small 3 ∷ []) [] (assign_to 6 (variable 1 6) [] (set 7 ((num 2, Some (num 30)) ∷ [])) ∷ for_of small 2 false (num 2) (num 30) (if_then (chain (read (variable 2 small) []) ((op.Member, read (variable 1 6) [], boolean) ∷ [])) (seq (perform call.Write (shown (read (variable 2 small) []) ∷ shown (letter 32) ∷ []) ∷ assign_to small (variable 3 small) [] (read (variable 2 small) []) ∷ while (chain (read (variable 3 small) []) ((op.LessEq, num 30, boolean) ∷ [])) (seq (assign_to 6 (variable 1 6) [] (chain (read (variable 1 6) []) ((op.Difference, set 7 ((read (variable 3 small) [], None) ∷ []), 6) ∷ [])) ∷ assign_to small (variable 3 small) [] (chain (read (variable 3 small) []) ((op.Add, read (variable 2 small) [], small) ∷ [])) ∷ [])) ∷ []))) ∷ [])) [] 50 (End (codes "2 3 5 7 11 13 17 19 23 29 ") 0 [])
 unfolding run
 primes_in_turbo_and_ucsd = (refl, (refl, tt))

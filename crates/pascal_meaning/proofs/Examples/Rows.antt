@@ -3,7 +3,8 @@ use Rattle.std.proofs.Common.{◌≡◌, [], ◌∷◌, ◌++◌, refl, false, S
 use Rattle.std.specs.Prelude.{codes, pos}
 use Rattle.p2c_text.specs.declared.dialect.Dialect.TheVariants.{Iso, Turbo, Ucsd, Hp}
 use Rattle.typed_tree.specs.declared.types.Host.TheVariants.{Whole as WholeHost}
-use Rattle.typed_tree.specs.declared.types.PasType.TheVariants.{Ordinal, Pointer, Array, DynString, RecordOf}
+use Rattle.typed_tree.specs.declared.types.Packing.TheVariants.{Either}
+use Rattle.typed_tree.specs.declared.types.PasType.TheVariants.{Ordinal, Pointer, Array, DynString, Literal, RecordOf, SetOf as SetType}
 use Rattle.typed_tree.specs.declared.declarations.Callee.TheVariants.{Routine as CalleeRoutine, Formal}
 use Rattle.typed_tree.specs.declared.declarations.Owner.TheVariants as Owner
 use Rattle.typed_tree.specs.declared.declarations.Owner.TheVariants.{Program}
@@ -21,7 +22,7 @@ use Rattle.pascal_meaning.proofs.Examples.Build.{integer, small, char, boolean, 
 
 -- a quote is written twice
 -- begin writeln('it''s') end.
-quote_in_a_text : InEach (Iso ∷ Turbo ∷ Ucsd ∷ Hp ∷ []) (λ d. whole d [] [] [] [] [] (perform call.Writeln (shown (quoted (codes "it's")) ∷ []) ∷ [])) [] 0 (End (line (codes "it's")) 0 [])
+quote_in_a_text : InEach (Iso ∷ Turbo ∷ Ucsd ∷ Hp ∷ []) (λ d. whole d (Literal 4 ∷ []) [] [] [] [] (perform call.Writeln (shown (quoted 5 (codes "it's")) ∷ []) ∷ [])) [] 0 (End (line (codes "it's")) 0 [])
 unfolding run
 quote_in_a_text = (refl, (refl, (refl, (refl, tt))))
 
@@ -33,7 +34,7 @@ empty_program = (refl, (refl, (refl, (refl, tt))))
 
 -- the sum is exact, and the store is out of range
 -- var x: integer; begin writeln(maxint); x := maxint + 1; writeln('no') end.
-integer_of_sixteen_bits : run (whole Turbo [] [] [] (of_type small 1 ∷ []) [] (perform call.Writeln (shown (num 32767) ∷ []) ∷ assign_to small (variable 1 small) [] (chain (num 32767) ((op.Add, num 1, small) ∷ [])) ∷ perform call.Writeln (shown (quoted (codes "no")) ∷ []) ∷ [])) [] 0 ≡ End (line (codes "32767")) 201 []
+integer_of_sixteen_bits : run (whole Turbo (Literal 2 ∷ []) [] [] (of_type small 1 ∷ []) [] (perform call.Writeln (shown (num 32767) ∷ []) ∷ assign_to small (variable 1 small) [] (chain (num 32767) ((op.Add, num 1, small) ∷ [])) ∷ perform call.Writeln (shown (quoted 5 (codes "no")) ∷ []) ∷ [])) [] 0 ≡ End (line (codes "32767")) 201 []
 unfolding run
 integer_of_sixteen_bits = refl
 
@@ -99,11 +100,11 @@ man_or_boy_in_turbo_and_ucsd = (refl, (refl, tt))
 
 -- the goto ends all activations after its target
 -- procedure r(d: integer; procedure q); label 1; procedure me; begin goto 1 end; begin if d = 1 then r(2, me) else if d < 4 then r(d + 1, q) else q; writeln('no'); 1: writeln(d) end; procedure none; begin end; begin r(1, none) end.
-goto_passes_newer_activations_in_iso_and_hp : InEach (Iso ∷ Hp ∷ []) (λ d. whole d [] (procedure 1 Program (section integer (1 ∷ []) ∷ section_procedures (2 ∷ []) ∷ []) [] (3 ∷ []) (if_else (chain (read (variable 1 integer) []) ((op.Equal, num 1, boolean) ∷ [])) (S.Call (CalleeRoutine 1) (value_for integer (num 2) ∷ arg.RoutineValue (CalleeRoutine 2) ∷ [])) (if_else (chain (read (variable 1 integer) []) ((op.Less, num 4, boolean) ∷ [])) (S.Call (CalleeRoutine 1) (value_for integer (chain (read (variable 1 integer) []) ((op.Add, num 1, integer) ∷ [])) ∷ arg.RoutineValue (Formal 2) ∷ [])) (S.Call (Formal 2) [])) ∷ perform call.Writeln (shown (quoted (codes "no")) ∷ []) ∷ labelled 3 (perform call.Writeln (shown (read (variable 1 integer) []) ∷ [])) ∷ []) ∷ procedure 2 (Owner.Routine 1) [] [] [] (S.Goto 3 ∷ []) ∷ procedure 3 Program [] [] [] (S.Empty ∷ []) ∷ []) [] [] [] (S.Call (CalleeRoutine 1) (value_for integer (num 1) ∷ arg.RoutineValue (CalleeRoutine 3) ∷ []) ∷ [])) [] 12 (End (line (codes "1")) 0 (1 ∷ 1 ∷ 1 ∷ 1 ∷ 2 ∷ []))
+goto_passes_newer_activations_in_iso_and_hp : InEach (Iso ∷ Hp ∷ []) (λ d. whole d (Literal 2 ∷ []) (procedure 1 Program (section integer (1 ∷ []) ∷ section_procedures (2 ∷ []) ∷ []) [] (3 ∷ []) (if_else (chain (read (variable 1 integer) []) ((op.Equal, num 1, boolean) ∷ [])) (S.Call (CalleeRoutine 1) (value_for integer (num 2) ∷ arg.RoutineValue (CalleeRoutine 2) ∷ [])) (if_else (chain (read (variable 1 integer) []) ((op.Less, num 4, boolean) ∷ [])) (S.Call (CalleeRoutine 1) (value_for integer (chain (read (variable 1 integer) []) ((op.Add, num 1, integer) ∷ [])) ∷ arg.RoutineValue (Formal 2) ∷ [])) (S.Call (Formal 2) [])) ∷ perform call.Writeln (shown (quoted 5 (codes "no")) ∷ []) ∷ labelled 3 (perform call.Writeln (shown (read (variable 1 integer) []) ∷ [])) ∷ []) ∷ procedure 2 (Owner.Routine 1) [] [] [] (S.Goto 3 ∷ []) ∷ procedure 3 Program [] [] [] (S.Empty ∷ []) ∷ []) [] [] [] (S.Call (CalleeRoutine 1) (value_for integer (num 1) ∷ arg.RoutineValue (CalleeRoutine 3) ∷ []) ∷ [])) [] 12 (End (line (codes "1")) 0 (1 ∷ 1 ∷ 1 ∷ 1 ∷ 2 ∷ []))
 unfolding run
 goto_passes_newer_activations_in_iso_and_hp = (refl, (refl, tt))
 
-goto_passes_newer_activations_in_turbo_and_ucsd : InEach (Turbo ∷ Ucsd ∷ []) (λ d. whole d [] (procedure 1 Program (section small (1 ∷ []) ∷ section_procedures (2 ∷ []) ∷ []) [] (3 ∷ []) (if_else (chain (read (variable 1 small) []) ((op.Equal, num 1, boolean) ∷ [])) (S.Call (CalleeRoutine 1) (value_for small (num 2) ∷ arg.RoutineValue (CalleeRoutine 2) ∷ [])) (if_else (chain (read (variable 1 small) []) ((op.Less, num 4, boolean) ∷ [])) (S.Call (CalleeRoutine 1) (value_for small (chain (read (variable 1 small) []) ((op.Add, num 1, small) ∷ [])) ∷ arg.RoutineValue (Formal 2) ∷ [])) (S.Call (Formal 2) [])) ∷ perform call.Writeln (shown (quoted (codes "no")) ∷ []) ∷ labelled 3 (perform call.Writeln (shown (read (variable 1 small) []) ∷ [])) ∷ []) ∷ procedure 2 (Owner.Routine 1) [] [] [] (S.Goto 3 ∷ []) ∷ procedure 3 Program [] [] [] (S.Empty ∷ []) ∷ []) [] [] [] (S.Call (CalleeRoutine 1) (value_for small (num 1) ∷ arg.RoutineValue (CalleeRoutine 3) ∷ []) ∷ [])) [] 12 (End (line (codes "1")) 0 (1 ∷ 1 ∷ 1 ∷ 1 ∷ 2 ∷ []))
+goto_passes_newer_activations_in_turbo_and_ucsd : InEach (Turbo ∷ Ucsd ∷ []) (λ d. whole d (Literal 2 ∷ []) (procedure 1 Program (section small (1 ∷ []) ∷ section_procedures (2 ∷ []) ∷ []) [] (3 ∷ []) (if_else (chain (read (variable 1 small) []) ((op.Equal, num 1, boolean) ∷ [])) (S.Call (CalleeRoutine 1) (value_for small (num 2) ∷ arg.RoutineValue (CalleeRoutine 2) ∷ [])) (if_else (chain (read (variable 1 small) []) ((op.Less, num 4, boolean) ∷ [])) (S.Call (CalleeRoutine 1) (value_for small (chain (read (variable 1 small) []) ((op.Add, num 1, small) ∷ [])) ∷ arg.RoutineValue (Formal 2) ∷ [])) (S.Call (Formal 2) [])) ∷ perform call.Writeln (shown (quoted 5 (codes "no")) ∷ []) ∷ labelled 3 (perform call.Writeln (shown (read (variable 1 small) []) ∷ [])) ∷ []) ∷ procedure 2 (Owner.Routine 1) [] [] [] (S.Goto 3 ∷ []) ∷ procedure 3 Program [] [] [] (S.Empty ∷ []) ∷ []) [] [] [] (S.Call (CalleeRoutine 1) (value_for small (num 1) ∷ arg.RoutineValue (CalleeRoutine 3) ∷ []) ∷ [])) [] 12 (End (line (codes "1")) 0 (1 ∷ 1 ∷ 1 ∷ 1 ∷ 2 ∷ []))
 unfolding run
 goto_passes_newer_activations_in_turbo_and_ucsd = (refl, (refl, tt))
 
@@ -114,7 +115,7 @@ unfolding run
 try_catches_a_runtime_error = refl
 
 -- label 1; begin try goto 1 recover writeln('no'); 1: writeln('out') end.
-try_lets_a_goto_pass : run (whole Hp [] [] [] [] (1 ∷ []) (try (S.Goto 1 ∷ []) (perform call.Writeln (shown (quoted (codes "no")) ∷ [])) ∷ labelled 1 (perform call.Writeln (shown (quoted (codes "out")) ∷ [])) ∷ [])) [] 1 ≡ End (line (codes "out")) 0 []
+try_lets_a_goto_pass : run (whole Hp (Literal 2 ∷ Literal 3 ∷ []) [] [] [] (1 ∷ []) (try (S.Goto 1 ∷ []) (perform call.Writeln (shown (quoted 5 (codes "no")) ∷ [])) ∷ labelled 1 (perform call.Writeln (shown (quoted 6 (codes "out")) ∷ [])) ∷ [])) [] 1 ≡ End (line (codes "out")) 0 []
 unfolding run
 try_lets_a_goto_pass = refl
 
@@ -128,12 +129,12 @@ unfolding run
 same_variant_keeps_its_fields_in_turbo_and_ucsd = (refl, (refl, tt))
 
 -- var s: string[3]; begin s := 'abcdef'; writeln(s, ord(s[0])) end.
-long_text_is_cut : run (whole Turbo (DynString 3 ∷ []) [] [] (of_type 5 1 ∷ []) [] (assign_to 5 (variable 1 5) [] (quoted (codes "abcdef")) ∷ perform call.Writeln (shown (read (variable 1 5) []) ∷ shown (predefined call.Ord (value_for char (read (variable 1 5) (selector.Index (num 0) 5 char ∷ [])) ∷ []) small) ∷ []) ∷ [])) [] 0 ≡ End (line (codes "abc3")) 0 []
+long_text_is_cut : run (whole Turbo (DynString 3 ∷ Literal 6 ∷ []) [] [] (of_type 5 1 ∷ []) [] (assign_to 5 (variable 1 5) [] (quoted 6 (codes "abcdef")) ∷ perform call.Writeln (shown (read (variable 1 5) []) ∷ shown (predefined call.Ord (value_for char (read (variable 1 5) (selector.Index (num 0) 5 char ∷ [])) ∷ []) small) ∷ []) ∷ [])) [] 0 ≡ End (line (codes "abc3")) 0 []
 unfolding run
 long_text_is_cut = refl
 
 -- var s: string[3]; begin s := 'abcdef'; writeln(s) end.
-long_text_raises : InEach (Ucsd ∷ Hp ∷ []) (λ d. whole d (DynString 3 ∷ []) [] [] (of_type 5 1 ∷ []) [] (assign_to 5 (variable 1 5) [] (quoted (codes "abcdef")) ∷ perform call.Writeln (shown (read (variable 1 5) []) ∷ []) ∷ [])) [] 0 (End [] 207 [])
+long_text_raises : InEach (Ucsd ∷ Hp ∷ []) (λ d. whole d (DynString 3 ∷ Literal 6 ∷ []) [] [] (of_type 5 1 ∷ []) [] (assign_to 5 (variable 1 5) [] (quoted 6 (codes "abcdef")) ∷ perform call.Writeln (shown (read (variable 1 5) []) ∷ []) ∷ [])) [] 0 (End [] 207 [])
 unfolding run
 long_text_raises = (refl, (refl, tt))
 
@@ -174,19 +175,19 @@ unfolding run
 line_end_is_a_space_in_turbo_and_ucsd = (refl, (refl, tt))
 
 -- begin write(5:3, 'abc':2) end.
-width_cuts_a_text : InEach (Iso ∷ Ucsd ∷ Hp ∷ []) (λ d. whole d [] [] [] [] [] (perform call.Write (wide (num 5) (num 3) ∷ wide (quoted (codes "abc")) (num 2) ∷ []) ∷ [])) [] 0 (End (codes "  5ab") 0 [])
+width_cuts_a_text : InEach (Iso ∷ Ucsd ∷ Hp ∷ []) (λ d. whole d (Literal 3 ∷ []) [] [] [] [] (perform call.Write (wide (num 5) (num 3) ∷ wide (quoted 5 (codes "abc")) (num 2) ∷ []) ∷ [])) [] 0 (End (codes "  5ab") 0 [])
 unfolding run
 width_cuts_a_text = (refl, (refl, (refl, tt)))
 
 -- begin write(5:3, 'abc':2) end.
-width_cuts_no_text : run (whole Turbo [] [] [] [] [] (perform call.Write (wide (num 5) (num 3) ∷ wide (quoted (codes "abc")) (num 2) ∷ []) ∷ [])) [] 0 ≡ End (codes "  5abc") 0 []
+width_cuts_no_text : run (whole Turbo (Literal 3 ∷ []) [] [] [] [] (perform call.Write (wide (num 5) (num 3) ∷ wide (quoted 5 (codes "abc")) (num 2) ∷ []) ∷ [])) [] 0 ≡ End (codes "  5abc") 0 []
 unfolding run
 width_cuts_no_text = refl
 
 -- the routine of a unit is called from the program
 -- unit 1: procedure hi; begin writeln('hi') end; begin write('u') end.
 -- begin hi end.
-initial_part_comes_first : run (whole Turbo [] (procedure 1 (Owner.UnitPart 0) [] [] [] (perform call.Writeln (shown (quoted (codes "hi")) ∷ []) ∷ []) ∷ []) (unit_of [] [] (perform call.Write (shown (letter 117) ∷ []) ∷ []) ∷ []) [] [] (S.Call (CalleeRoutine 1) [] ∷ [])) [] 1 ≡ End (line (codes "uhi")) 0 (1 ∷ [])
+initial_part_comes_first : run (whole Turbo (Literal 2 ∷ []) (procedure 1 (Owner.UnitPart 0) [] [] [] (perform call.Writeln (shown (quoted 5 (codes "hi")) ∷ []) ∷ []) ∷ []) (unit_of [] [] (perform call.Write (shown (letter 117) ∷ []) ∷ []) ∷ []) [] [] (S.Call (CalleeRoutine 1) [] ∷ [])) [] 1 ≡ End (line (codes "uhi")) 0 (1 ∷ [])
 unfolding run
 initial_part_comes_first = refl
 
@@ -198,11 +199,11 @@ endless_loop_is_cut = (refl, (refl, (refl, (refl, tt))))
 
 -- a number outside 0..255 is in no set, and a member outside it is an error
 -- var s: set of 1..9; i: integer; begin i := 300; write(i in [1..3]); s := [i] end.
-number_is_in_no_set_in_iso_and_hp : InEach (Iso ∷ Hp ∷ []) (λ d. whole d (Ordinal WholeHost (pos 1) (pos 9) ∷ set_of 5 ∷ []) [] [] (of_type 6 1 ∷ of_type integer 2 ∷ []) [] (assign_to integer (variable 2 integer) [] (num 300) ∷ perform call.Write (shown (chain (read (variable 2 integer) []) ((op.Member, set ((num 1, Some (num 3)) ∷ []), boolean) ∷ [])) ∷ []) ∷ assign_to 6 (variable 1 6) [] (set ((read (variable 2 integer) [], None) ∷ [])) ∷ [])) [] 0 (End (codes "FALSE") 201 [])
+number_is_in_no_set_in_iso_and_hp : InEach (Iso ∷ Hp ∷ []) (λ d. whole d (Ordinal WholeHost (pos 1) (pos 9) ∷ set_of 5 ∷ SetType Either (Some integer) ∷ []) [] [] (of_type 6 1 ∷ of_type integer 2 ∷ []) [] (assign_to integer (variable 2 integer) [] (num 300) ∷ perform call.Write (shown (chain (read (variable 2 integer) []) ((op.Member, set 7 ((num 1, Some (num 3)) ∷ []), boolean) ∷ [])) ∷ []) ∷ assign_to 6 (variable 1 6) [] (set 7 ((read (variable 2 integer) [], None) ∷ [])) ∷ [])) [] 0 (End (codes "FALSE") 201 [])
 unfolding run
 number_is_in_no_set_in_iso_and_hp = (refl, (refl, tt))
 
-number_is_in_no_set_in_turbo_and_ucsd : InEach (Turbo ∷ Ucsd ∷ []) (λ d. whole d (Ordinal WholeHost (pos 1) (pos 9) ∷ set_of 5 ∷ []) [] [] (of_type 6 1 ∷ of_type small 2 ∷ []) [] (assign_to small (variable 2 small) [] (num 300) ∷ perform call.Write (shown (chain (read (variable 2 small) []) ((op.Member, set ((num 1, Some (num 3)) ∷ []), boolean) ∷ [])) ∷ []) ∷ assign_to 6 (variable 1 6) [] (set ((read (variable 2 small) [], None) ∷ [])) ∷ [])) [] 0 (End (codes "FALSE") 201 [])
+number_is_in_no_set_in_turbo_and_ucsd : InEach (Turbo ∷ Ucsd ∷ []) (λ d. whole d (Ordinal WholeHost (pos 1) (pos 9) ∷ set_of 5 ∷ SetType Either (Some small) ∷ []) [] [] (of_type 6 1 ∷ of_type small 2 ∷ []) [] (assign_to small (variable 2 small) [] (num 300) ∷ perform call.Write (shown (chain (read (variable 2 small) []) ((op.Member, set 7 ((num 1, Some (num 3)) ∷ []), boolean) ∷ [])) ∷ []) ∷ assign_to 6 (variable 1 6) [] (set 7 ((read (variable 2 small) [], None) ∷ [])) ∷ [])) [] 0 (End (codes "FALSE") 201 [])
 unfolding run
 number_is_in_no_set_in_turbo_and_ucsd = (refl, (refl, tt))
 

@@ -3,7 +3,7 @@ use Rattle.std.proofs.Common.{◌≡◌, [], ◌∷◌, refl, true, false, Some,
 use Rattle.std.specs.Prelude.{codes, pos, negsuc}
 use Rattle.p2c_text.specs.declared.dialect.Dialect.TheVariants.{Iso, Turbo, Ucsd, Hp}
 use Rattle.typed_tree.specs.declared.types.Host.TheVariants.{Whole as WholeHost, Char as CharHost}
-use Rattle.typed_tree.specs.declared.types.PasType.TheVariants.{Ordinal, Array, RecordOf}
+use Rattle.typed_tree.specs.declared.types.PasType.TheVariants.{Ordinal, Array, Literal, RecordOf}
 use Rattle.typed_tree.specs.declared.declarations.Callee.TheVariants.{Routine as CalleeRoutine}
 use Rattle.typed_tree.specs.declared.declarations.Owner.TheVariants.{Program}
 use Rattle.typed_tree.specs.declared.expressions.Root.TheVariants as root
@@ -94,11 +94,11 @@ store_into_another_variant_in_turbo_and_ucsd = (refl, (refl, tt))
 
 -- it is checked when it is made
 -- var r: record case k: Boolean of true: (a: integer); false: (b: integer) end; procedure p(var x: integer); begin write('no') end; begin r.k := true; write('x'); p(r.b) end.
-reference_into_another_variant_in_iso_and_hp : InEach (Iso ∷ Hp ∷ []) (λ d. whole d (RecordOf false [] (Some (variant_part 1 (Some []) boolean (arm (label_of (pos 1) ∷ []) (field 2 integer ∷ []) None ∷ arm (label_of (pos 0) ∷ []) (field 3 integer ∷ []) None ∷ []))) ∷ []) (procedure 1 Program (section_var integer (5 ∷ []) ∷ []) [] [] (perform call.Write (shown (quoted (codes "no")) ∷ []) ∷ []) ∷ []) [] (of_type 5 4 ∷ []) [] (assign_to boolean (variable 4 5) (selector.Field 1 boolean ∷ []) (truth 1) ∷ perform call.Write (shown (letter 120) ∷ []) ∷ S.Call (CalleeRoutine 1) (by_reference (variable 4 5) (selector.Field 3 integer ∷ []) ∷ []) ∷ [])) [] 1 (End (codes "x") 205 [])
+reference_into_another_variant_in_iso_and_hp : InEach (Iso ∷ Hp ∷ []) (λ d. whole d (RecordOf false [] (Some (variant_part 1 (Some []) boolean (arm (label_of (pos 1) ∷ []) (field 2 integer ∷ []) None ∷ arm (label_of (pos 0) ∷ []) (field 3 integer ∷ []) None ∷ []))) ∷ Literal 2 ∷ []) (procedure 1 Program (section_var integer (5 ∷ []) ∷ []) [] [] (perform call.Write (shown (quoted 6 (codes "no")) ∷ []) ∷ []) ∷ []) [] (of_type 5 4 ∷ []) [] (assign_to boolean (variable 4 5) (selector.Field 1 boolean ∷ []) (truth 1) ∷ perform call.Write (shown (letter 120) ∷ []) ∷ S.Call (CalleeRoutine 1) (by_reference (variable 4 5) (selector.Field 3 integer ∷ []) ∷ []) ∷ [])) [] 1 (End (codes "x") 205 [])
 unfolding run
 reference_into_another_variant_in_iso_and_hp = (refl, (refl, tt))
 
-reference_into_another_variant_in_turbo_and_ucsd : InEach (Turbo ∷ Ucsd ∷ []) (λ d. whole d (RecordOf false [] (Some (variant_part 1 (Some []) boolean (arm (label_of (pos 1) ∷ []) (field 2 small ∷ []) None ∷ arm (label_of (pos 0) ∷ []) (field 3 small ∷ []) None ∷ []))) ∷ []) (procedure 1 Program (section_var small (5 ∷ []) ∷ []) [] [] (perform call.Write (shown (quoted (codes "no")) ∷ []) ∷ []) ∷ []) [] (of_type 5 4 ∷ []) [] (assign_to boolean (variable 4 5) (selector.Field 1 boolean ∷ []) (truth 1) ∷ perform call.Write (shown (letter 120) ∷ []) ∷ S.Call (CalleeRoutine 1) (by_reference (variable 4 5) (selector.Field 3 small ∷ []) ∷ []) ∷ [])) [] 1 (End (codes "x") 205 [])
+reference_into_another_variant_in_turbo_and_ucsd : InEach (Turbo ∷ Ucsd ∷ []) (λ d. whole d (RecordOf false [] (Some (variant_part 1 (Some []) boolean (arm (label_of (pos 1) ∷ []) (field 2 small ∷ []) None ∷ arm (label_of (pos 0) ∷ []) (field 3 small ∷ []) None ∷ []))) ∷ Literal 2 ∷ []) (procedure 1 Program (section_var small (5 ∷ []) ∷ []) [] [] (perform call.Write (shown (quoted 6 (codes "no")) ∷ []) ∷ []) ∷ []) [] (of_type 5 4 ∷ []) [] (assign_to boolean (variable 4 5) (selector.Field 1 boolean ∷ []) (truth 1) ∷ perform call.Write (shown (letter 120) ∷ []) ∷ S.Call (CalleeRoutine 1) (by_reference (variable 4 5) (selector.Field 3 small ∷ []) ∷ []) ∷ [])) [] 1 (End (codes "x") 205 [])
 unfolding run
 reference_into_another_variant_in_turbo_and_ucsd = (refl, (refl, tt))
 
@@ -256,12 +256,12 @@ unfolding run
 target_is_selected_first_in_turbo_and_ucsd = (refl, (refl, tt))
 
 -- var z: packed array [1..3] of char; begin z := 'abc'; write(z); z[2] := 'x'; write(z) end.
-fixed_string : InEach (Iso ∷ Hp ∷ Ucsd ∷ []) (λ d. whole d (Ordinal WholeHost (pos 1) (pos 3) ∷ Array true 5 char ∷ []) [] [] (of_type 6 1 ∷ []) [] (assign_to 6 (variable 1 6) [] (quoted (codes "abc")) ∷ perform call.Write (shown (read (variable 1 6) []) ∷ []) ∷ assign_to char (variable 1 6) (selector.Index (num 2) 6 char ∷ []) (letter 120) ∷ perform call.Write (shown (read (variable 1 6) []) ∷ []) ∷ [])) [] 0 (End (codes "abcaxc") 0 [])
+fixed_string : InEach (Iso ∷ Hp ∷ Ucsd ∷ []) (λ d. whole d (Ordinal WholeHost (pos 1) (pos 3) ∷ Array true 5 char ∷ Literal 3 ∷ []) [] [] (of_type 6 1 ∷ []) [] (assign_to 6 (variable 1 6) [] (quoted 7 (codes "abc")) ∷ perform call.Write (shown (read (variable 1 6) []) ∷ []) ∷ assign_to char (variable 1 6) (selector.Index (num 2) 6 char ∷ []) (letter 120) ∷ perform call.Write (shown (read (variable 1 6) []) ∷ []) ∷ [])) [] 0 (End (codes "abcaxc") 0 [])
 unfolding run
 fixed_string = (refl, (refl, (refl, tt)))
 
 -- var z: array [1..3] of char; begin z := 'abc'; write(z) end.
-fixed_string_without_packed : run (whole Turbo (Ordinal WholeHost (pos 1) (pos 3) ∷ Array false 5 char ∷ []) [] [] (of_type 6 1 ∷ []) [] (assign_to 6 (variable 1 6) [] (quoted (codes "abc")) ∷ perform call.Write (shown (read (variable 1 6) []) ∷ []) ∷ [])) [] 0 ≡ End (codes "abc") 0 []
+fixed_string_without_packed : run (whole Turbo (Ordinal WholeHost (pos 1) (pos 3) ∷ Array false 5 char ∷ Literal 3 ∷ []) [] [] (of_type 6 1 ∷ []) [] (assign_to 6 (variable 1 6) [] (quoted 7 (codes "abc")) ∷ perform call.Write (shown (read (variable 1 6) []) ∷ []) ∷ [])) [] 0 ≡ End (codes "abc") 0 []
 unfolding run
 fixed_string_without_packed = refl
 
@@ -272,7 +272,7 @@ unfolding run
 pack_from_an_index = (refl, (refl, tt))
 
 -- var a: array [1..5] of char; z: packed array [1..3] of char; i: integer; begin for i := 1 to 5 do a[i] := '-'; z := 'xyz'; unpack(z, a, 3); for i := 1 to 5 do write(a[i]); unpack(z, a, 0) end.
-unpack_to_an_index : InEach (Iso ∷ Hp ∷ []) (λ d. whole d (Ordinal WholeHost (pos 1) (pos 5) ∷ Array false 5 char ∷ Ordinal WholeHost (pos 1) (pos 3) ∷ Array true 7 char ∷ []) [] [] (of_type 6 1 ∷ of_type 8 2 ∷ of_type integer 3 ∷ []) [] (for_of integer 3 false (num 1) (num 5) (assign_to char (variable 1 6) (selector.Index (read (variable 3 integer) []) 6 char ∷ []) (letter 45)) ∷ assign_to 8 (variable 2 8) [] (quoted (codes "xyz")) ∷ perform call.Unpack (value_for 8 (read (variable 2 8) []) ∷ by_reference (variable 1 6) [] ∷ value_for integer (num 3) ∷ []) ∷ for_of integer 3 false (num 1) (num 5) (perform call.Write (shown (read (variable 1 6) (selector.Index (read (variable 3 integer) []) 6 char ∷ [])) ∷ [])) ∷ perform call.Unpack (value_for 8 (read (variable 2 8) []) ∷ by_reference (variable 1 6) [] ∷ value_for integer (num 0) ∷ []) ∷ [])) [] 10 (End (codes "--xyz") 201 [])
+unpack_to_an_index : InEach (Iso ∷ Hp ∷ []) (λ d. whole d (Ordinal WholeHost (pos 1) (pos 5) ∷ Array false 5 char ∷ Ordinal WholeHost (pos 1) (pos 3) ∷ Array true 7 char ∷ Literal 3 ∷ []) [] [] (of_type 6 1 ∷ of_type 8 2 ∷ of_type integer 3 ∷ []) [] (for_of integer 3 false (num 1) (num 5) (assign_to char (variable 1 6) (selector.Index (read (variable 3 integer) []) 6 char ∷ []) (letter 45)) ∷ assign_to 8 (variable 2 8) [] (quoted 9 (codes "xyz")) ∷ perform call.Unpack (value_for 8 (read (variable 2 8) []) ∷ by_reference (variable 1 6) [] ∷ value_for integer (num 3) ∷ []) ∷ for_of integer 3 false (num 1) (num 5) (perform call.Write (shown (read (variable 1 6) (selector.Index (read (variable 3 integer) []) 6 char ∷ [])) ∷ [])) ∷ perform call.Unpack (value_for 8 (read (variable 2 8) []) ∷ by_reference (variable 1 6) [] ∷ value_for integer (num 0) ∷ []) ∷ [])) [] 10 (End (codes "--xyz") 201 [])
 unfolding run
 unpack_to_an_index = (refl, (refl, tt))
 
@@ -288,6 +288,6 @@ unfolding run
 pack_copies_records = (refl, (refl, tt))
 
 -- var z, y: packed array [1..3] of char; begin z := 'abc'; y := 'abd'; write(z < y, z = y, z <> y, z >= y, y > z, z <= 'abc') end.
-fixed_strings_are_compared : InEach (Iso ∷ Turbo ∷ Ucsd ∷ Hp ∷ []) (λ d. whole d (Ordinal WholeHost (pos 1) (pos 3) ∷ Array true 5 char ∷ []) [] [] (of_type 6 1 ∷ of_type 6 2 ∷ []) [] (assign_to 6 (variable 1 6) [] (quoted (codes "abc")) ∷ assign_to 6 (variable 2 6) [] (quoted (codes "abd")) ∷ perform call.Write (shown (chain (read (variable 1 6) []) ((op.Less, read (variable 2 6) [], boolean) ∷ [])) ∷ shown (chain (read (variable 1 6) []) ((op.Equal, read (variable 2 6) [], boolean) ∷ [])) ∷ shown (chain (read (variable 1 6) []) ((op.Unequal, read (variable 2 6) [], boolean) ∷ [])) ∷ shown (chain (read (variable 1 6) []) ((op.GreaterEq, read (variable 2 6) [], boolean) ∷ [])) ∷ shown (chain (read (variable 2 6) []) ((op.Greater, read (variable 1 6) [], boolean) ∷ [])) ∷ shown (chain (read (variable 1 6) []) ((op.LessEq, quoted (codes "abc"), boolean) ∷ [])) ∷ []) ∷ [])) [] 0 (End (codes "TRUEFALSETRUEFALSETRUETRUE") 0 [])
+fixed_strings_are_compared : InEach (Iso ∷ Turbo ∷ Ucsd ∷ Hp ∷ []) (λ d. whole d (Ordinal WholeHost (pos 1) (pos 3) ∷ Array true 5 char ∷ Literal 3 ∷ []) [] [] (of_type 6 1 ∷ of_type 6 2 ∷ []) [] (assign_to 6 (variable 1 6) [] (quoted 7 (codes "abc")) ∷ assign_to 6 (variable 2 6) [] (quoted 7 (codes "abd")) ∷ perform call.Write (shown (chain (read (variable 1 6) []) ((op.Less, read (variable 2 6) [], boolean) ∷ [])) ∷ shown (chain (read (variable 1 6) []) ((op.Equal, read (variable 2 6) [], boolean) ∷ [])) ∷ shown (chain (read (variable 1 6) []) ((op.Unequal, read (variable 2 6) [], boolean) ∷ [])) ∷ shown (chain (read (variable 1 6) []) ((op.GreaterEq, read (variable 2 6) [], boolean) ∷ [])) ∷ shown (chain (read (variable 2 6) []) ((op.Greater, read (variable 1 6) [], boolean) ∷ [])) ∷ shown (chain (read (variable 1 6) []) ((op.LessEq, quoted 7 (codes "abc"), boolean) ∷ [])) ∷ []) ∷ [])) [] 0 (End (codes "TRUEFALSETRUEFALSETRUETRUE") 0 [])
 unfolding run
 fixed_strings_are_compared = (refl, (refl, (refl, (refl, tt))))

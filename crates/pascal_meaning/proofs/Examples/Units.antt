@@ -2,6 +2,7 @@
 use Rattle.std.proofs.Common.{◌≡◌, [], ◌∷◌, refl}
 use Rattle.std.specs.Prelude.{codes}
 use Rattle.p2c_text.specs.declared.dialect.Dialect.TheVariants.{Turbo, Ucsd, Hp}
+use Rattle.typed_tree.specs.declared.types.PasType.TheVariants.{Literal}
 use Rattle.typed_tree.specs.declared.declarations.Callee.TheVariants.{Routine as CalleeRoutine}
 use Rattle.typed_tree.specs.declared.declarations.Owner.TheVariants as Owner
 use Rattle.typed_tree.specs.declared.declarations.Owner.TheVariants.{Program}
@@ -46,7 +47,7 @@ variable_of_a_unit_in_hp = refl
 
 -- unit 1: begin write('a'); exit; write('no') end.
 -- begin write('p'); exit; write('no') end.
-exit_ends_the_initial_part : run (whole Turbo [] [] (unit_of [] [] (perform call.Write (shown (letter 97) ∷ []) ∷ perform call.Exit [] ∷ perform call.Write (shown (quoted (codes "no")) ∷ []) ∷ []) ∷ []) [] [] (perform call.Write (shown (letter 112) ∷ []) ∷ perform call.Exit [] ∷ perform call.Write (shown (quoted (codes "no")) ∷ []) ∷ [])) [] 0 ≡ End (codes "ap") 0 []
+exit_ends_the_initial_part : run (whole Turbo (Literal 2 ∷ []) [] (unit_of [] [] (perform call.Write (shown (letter 97) ∷ []) ∷ perform call.Exit [] ∷ perform call.Write (shown (quoted 5 (codes "no")) ∷ []) ∷ []) ∷ []) [] [] (perform call.Write (shown (letter 112) ∷ []) ∷ perform call.Exit [] ∷ perform call.Write (shown (quoted 5 (codes "no")) ∷ []) ∷ [])) [] 0 ≡ End (codes "ap") 0 []
 unfolding run
 exit_ends_the_initial_part = refl
 
@@ -58,7 +59,7 @@ exit_of_the_program_in_an_initial_part = refl
 
 -- unit 1: label 1; begin write('a'); goto 1; write('no'); 1: end.
 -- begin write('p') end.
-goto_in_an_initial_part : InEach (Turbo ∷ Ucsd ∷ Hp ∷ []) (λ d. whole d [] [] (unit_of [] (1 ∷ []) (perform call.Write (shown (letter 97) ∷ []) ∷ S.Goto 1 ∷ perform call.Write (shown (quoted (codes "no")) ∷ []) ∷ labelled 1 (S.Empty) ∷ []) ∷ []) [] [] (perform call.Write (shown (letter 112) ∷ []) ∷ [])) [] 1 (End (codes "ap") 0 [])
+goto_in_an_initial_part : InEach (Turbo ∷ Ucsd ∷ Hp ∷ []) (λ d. whole d (Literal 2 ∷ []) [] (unit_of [] (1 ∷ []) (perform call.Write (shown (letter 97) ∷ []) ∷ S.Goto 1 ∷ perform call.Write (shown (quoted 5 (codes "no")) ∷ []) ∷ labelled 1 (S.Empty) ∷ []) ∷ []) [] [] (perform call.Write (shown (letter 112) ∷ []) ∷ [])) [] 1 (End (codes "ap") 0 [])
 unfolding run
 goto_in_an_initial_part = (refl, (refl, (refl, tt)))
 

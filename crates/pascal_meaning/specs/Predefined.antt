@@ -12,6 +12,7 @@ use Rattle.typed_tree.specs.declared.declarations.Owner.TheVariants.{Program, Ro
 use Rattle.typed_tree.specs.declared.operations.PredefCall.{PredefCall}
 use Rattle.typed_tree.specs.declared.operations.PredefCall.TheVariants as call
 use Rattle.typed_tree.specs.Ranges.{type_at, Range, Hosted}
+use Rattle.meanings.specs.declared.errors.RuntimeError.TheVariants.{OutOfRange, NilUse, LongText}
 use Rattle.meanings.specs.Values.{Tree, Undefined, Whole, NilPointer, HeapNumber, ArrayOf, Trees, no_trees, tree, Heap}
 use Rattle.meanings.specs.Worlds.{View}
 use Rattle.meanings.specs.Outcomes.{Escape, Leave, Raise, Halt, ReadUndefined, Checked, Passes, Fails, Lacks, ◌&>◌}
@@ -19,7 +20,7 @@ use Rattle.meanings.specs.Programs.{Prog, ◌>>=◌, ◌>>◌, pure, stop, ask, 
 use Rattle.meanings.specs.Names.{enclosing}
 use Rattle.meanings.specs.Memory.{base_tree, solid}
 use Rattle.meanings.specs.Fresh.{size_of, fresh}
-use Rattle.pascal_meaning.specs.Numbers.{unless_error, exact, in_range, of_bool, equal, number_of, whole}
+use Rattle.pascal_meaning.specs.Numbers.{when, exact, in_range, of_bool, equal, number_of, whole}
 use Rattle.pascal_meaning.specs.Texts.{Text, Plain, text_of, length_of, read_text, read_texts, making}
 use Rattle.pascal_meaning.specs.Places.{Spot, component, read_spot, store, store_copy, assign}
 use Rattle.pascal_meaning.specs.Input.{at_end, at_line_end, get_char, read_into, read_line}
@@ -54,7 +55,7 @@ texts_in types (x ∷ xs) = text_in types x ∷ texts_in types xs
 
 -- ---- values that the operands decide
 
--- a value of the host; past its end 201, and 203 for whole numbers
+-- a value of the host; past its end `OutOfRange`, and `Overflow` for whole numbers
 unfoldable pub in_host : Types → Option Host → ℤ → Checked ℤ
 in_host types (Some WholeHost) z = exact z
 in_host types (Some Char) z = in_range (Some (pos 0, pos 255)) z
@@ -146,7 +147,7 @@ unfoldable pub without_heap : ℕ → View → Option View
 without_heap h v = elim (base_tree v (Heap h)) [ Some t ↦ Some (record v { heap = slice_set v.heap h None }) | None ↦ None ]
 
 unfoldable pub disposable : Tree → Checked ℕ
-disposable NilPointer = Fails 202
+disposable NilPointer = Fails NilUse
 disposable (HeapNumber h) = Passes h
 disposable _ = Lacks
 
@@ -183,10 +184,10 @@ unfoldable pub index_range : Types → Option PasType → Option (ℤ × ℤ)
 index_range types (Some (Array packed index component)) = Range types index
 index_range types _ = None
 
--- the place of the index i in an array from which n components are wanted, else 201
+-- the place of the index i in an array from which n components are wanted, else `OutOfRange`
 unfoldable pub part_from : Option (ℤ × ℤ) → ℤ → ℕ → Checked ℕ
 part_from None i n = Lacks
-part_from (Some r) i n = unless_error (int_le r.0 i && int_le (i +ℤ pos n) (r.1 +ℤ pos 1)) 201 (unsigned_abs (i -ℤ r.0))
+part_from (Some r) i n = when (int_le r.0 i && int_le (i +ℤ pos n) (r.1 +ℤ pos 1)) OutOfRange (unsigned_abs (i -ℤ r.0))
 
 -- the number of components of the packed array, and the index in the unpacked one
 unfoldable pub part_in : Types → (packed unpacked : ℕ) → ℤ → Checked (ℕ × ℕ)
@@ -253,7 +254,7 @@ value_of_text _ = stop ReadUndefined
 
 -- the length alone is set
 unfoldable pub set_length : List Operand → Prog (Unit {0})
-set_length (Target p ∷ n ∷ []) = check (λ types. limit_of (type_at types p.of) &> λ limit. unless_error (int_le (pos 0) (integer_of n) && int_le (integer_of n) limit) 207 (Whole (integer_of n)))
+set_length (Target p ∷ n ∷ []) = check (λ types. limit_of (type_at types p.of) &> λ limit. when (int_le (pos 0) (integer_of n) && int_le (integer_of n) limit) LongText (Whole (integer_of n)))
     >>= λ t. store_copy (component p 0 0) t
 set_length _ = stop ReadUndefined
 
