@@ -1,3 +1,3 @@
 mod WriterRuns
 mod WriterMeans
-mod WritersAgree
+pub mod WritersAgree

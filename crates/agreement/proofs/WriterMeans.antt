@@ -14,8 +14,8 @@ use Rattle.meanings.specs.Programs.{Level, Setting, Prog, pure, ◌>>◌, ◌>>=
 use Rattle.meanings.specs.Code.{End, answer, answer_of, whole_program, initial_parts, start, level}
 use Rattle.pascal_meaning.specs.Texts.{count, byte_of, read_cells, cells, cells_of, length_of, made, text_of as seen_text}
 use Rattle.pascal_meaning.specs.Output.{width_of, written, shown as shown_value, shown_text, shown_length, padded, places}
-use Rattle.pascal_meaning.specs.Calls.{one_by_one, write_one, call_statement}
-use Rattle.pascal_meaning.specs.Meaning.{code, outline, block_code, exec, items, operand, value, width, expr_type, Pas}
+use Rattle.pascal_meaning.specs.Predefined.{one_by_one, write_one, call_statement}
+use Rattle.pascal_meaning.specs.Meaning.{code, outline, block_code, Exec, items, operand, Value, width, expr_type, Pas}
 use Rattle.pascal_meaning.specs.Statements.{Item, run_all, begin_at, sequence}
 use Rattle.pascal_meaning.specs.Whole.{run}
 use Rattle.agreement.specs.Writers.{Writing, Nothing, LineEnd, Text, Line, bytes_of, all_bytes, types_of, all_types, typed_statement, typed_statements, row_of, sequence_of, typed_writer}
@@ -66,7 +66,7 @@ put_put : (w : World) (as' bs : List ℕ) → put (put w as') bs ≡ put w (as' 
 put_put w as' bs = ap (λ o. record w { output = o }) (append_assoc w.output as' bs)
 
 -- a statement without a label runs before those after it
-first_then : (t : ℕ) (x : Writing) (more : List TypedStmt) → run_all (items (row_of (typed_statement t x ∷ more))) ≡ (exec (typed_statement t x) >> run_all (items (row_of more)))
+first_then : (t : ℕ) (x : Writing) (more : List TypedStmt) → run_all (items (row_of (typed_statement t x ∷ more))) ≡ (Exec (typed_statement t x) >> run_all (items (row_of more)))
 unfolding run_all items
 first_then t Nothing more = refl
 first_then t LineEnd more = refl
@@ -93,20 +93,20 @@ module _ (s : Setting) (h : AreWriters s.program.types) (l : Level) where
   unfolding check print ◌>>=◌
   char_put b w = rw (h.char, char_written s.program.types.dialect b) refl
 
-  write_put : (t : ℕ) → 0 < t → (bytes : List ℕ) (w : World) → exec (typed_statement t (Text bytes)) s l w ≡ done (put w bytes)
-  unfolding exec call_statement one_by_one write_one operand value width expr_type pure ◌>>=◌ ◌>>◌
+  write_put : (t : ℕ) → 0 < t → (bytes : List ℕ) (w : World) → Exec (typed_statement t (Text bytes)) s l w ≡ done (put w bytes)
+  unfolding Exec call_statement one_by_one write_one operand Value width expr_type pure ◌>>=◌ ◌>>◌
   write_put t p [] w = rw (text_put t p [] w) refl
   write_put t p (b ∷ []) w = rw (char_put b w) refl
   write_put t p (b ∷ c ∷ more) w = rw (text_put t p (b ∷ c ∷ more) w) refl
 
-  line_put : (t : ℕ) → 0 < t → (bytes : List ℕ) (w : World) → exec (typed_statement t (Line bytes)) s l w ≡ done (put (put w bytes) (10 ∷ []))
-  unfolding exec call_statement one_by_one write_one operand value width expr_type pure print ◌>>=◌ ◌>>◌
+  line_put : (t : ℕ) → 0 < t → (bytes : List ℕ) (w : World) → Exec (typed_statement t (Line bytes)) s l w ≡ done (put (put w bytes) (10 ∷ []))
+  unfolding Exec call_statement one_by_one write_one operand Value width expr_type pure print ◌>>=◌ ◌>>◌
   line_put t p [] w = rw (text_put t p [] w) refl
   line_put t p (b ∷ []) w = rw (char_put b w) refl
   line_put t p (b ∷ c ∷ more) w = rw (text_put t p (b ∷ c ∷ more) w) refl
 
-  statement_put : (t : ℕ) → 0 < t → (x : Writing) (w : World) → exec (typed_statement t x) s l w ≡ done (put w (bytes_of x))
-  unfolding exec call_statement one_by_one pure print ◌>>◌
+  statement_put : (t : ℕ) → 0 < t → (x : Writing) (w : World) → Exec (typed_statement t x) s l w ≡ done (put w (bytes_of x))
+  unfolding Exec call_statement one_by_one pure print ◌>>◌
   statement_put t p Nothing w = nothing_put w
   statement_put t p LineEnd w = refl
   statement_put t p (Text bytes) w = write_put t p bytes w
@@ -121,12 +121,12 @@ module _ (s : Setting) (h : AreWriters s.program.types) (l : Level) where
   all_put t p [] w = nothing_put w
   all_put t p (x ∷ ws) w =
       ap (λ q. q s l w) (first_then t x (typed_statements (t + length (types_of x)) ws))
-      ∙ next_put (exec (typed_statement t x)) (run_all (items (row_of (typed_statements (t + length (types_of x)) ws)))) w (put w (bytes_of x)) (done (put w (bytes_of x ++ all_bytes ws)))
+      ∙ next_put (Exec (typed_statement t x)) (run_all (items (row_of (typed_statements (t + length (types_of x)) ws)))) w (put w (bytes_of x)) (done (put w (bytes_of x ++ all_bytes ws)))
       (statement_put t p x w)
       (all_put (t + length (types_of x)) (omega arith) ws (put w (bytes_of x)) ∙ ap done (put_put w (bytes_of x) (all_bytes ws)))
 
-  body_put : (ws : List Writing) (w : World) → exec (sequence_of (typed_statements 1 ws)) s l w ≡ done (put w (all_bytes ws))
-  unfolding exec
+  body_put : (ws : List Writing) (w : World) → Exec (sequence_of (typed_statements 1 ws)) s l w ≡ done (put w (all_bytes ws))
+  unfolding Exec
   body_put ws w = in_sequence s l (items (row_of (typed_statements 1 ws))) w (put w (all_bytes ws)) (all_put 1 (omega arith) ws w)
 
 -- ---- the program
