@@ -288,3 +288,21 @@ string_in_a_variant_in_hp = refl
 string_longer_than_its_width : run (whole Ucsd (Ordinal WholeHost (pos 1) (pos 3) ∷ Array true 5 char ∷ []) [] [] (of_type 6 1 ∷ []) [] (assign_to char (variable 1 6) (selector.Index (num 1) 6 char ∷ []) (letter 97) ∷ perform call.Write (wide (read (variable 1 6) []) (num 1) ∷ []) ∷ perform call.Write (wide (read (variable 1 6) []) (num 2) ∷ []) ∷ [])) [] 0 ≡ UndefinedAfter (codes "a") []
 unfolding run
 string_longer_than_its_width = refl
+
+-- the cells that are cut afterwards are read too
+-- var s: string[1]; t: string[3]; begin t[0] := chr(2); t[1] := 'a'; write('x'); s := t; write('y') end.
+cut_cells_are_read : run (whole Turbo (DynString 1 ∷ DynString 3 ∷ []) [] [] (of_type 5 1 ∷ of_type 6 2 ∷ []) [] (assign_to char (variable 2 6) (selector.Index (num 0) 6 char ∷ []) (predefined call.Chr (value_for small (num 2) ∷ []) char) ∷ assign_to char (variable 2 6) (selector.Index (num 1) 6 char ∷ []) (letter 97) ∷ perform call.Write (shown (letter 120) ∷ []) ∷ assign_to 5 (variable 1 5) [] (read (variable 2 6) []) ∷ perform call.Write (shown (letter 121) ∷ []) ∷ [])) [] 0 ≡ UndefinedAfter (codes "x") []
+unfolding run
+cut_cells_are_read = refl
+
+-- even where nothing is removed
+-- var s: string[3]; begin write('x'); delete(s, 1, 0) end.
+changed_string_is_read : InEach (Turbo ∷ Ucsd ∷ []) (λ d. whole d (DynString 3 ∷ []) [] [] (of_type 5 1 ∷ []) [] (perform call.Write (shown (letter 120) ∷ []) ∷ perform call.Delete (by_reference (variable 1 5) [] ∷ value_for small (num 1) ∷ value_for small (num 0) ∷ []) ∷ [])) [] 0 (UndefinedAfter (codes "x") [])
+unfolding run
+changed_string_is_read = (refl, (refl, tt))
+
+-- the place 0 would be an error
+-- var s: string[3]; begin write('x'); write(copy(s, 0, 1)) end.
+text_is_read_before_the_checks : InEach (Turbo ∷ Ucsd ∷ []) (λ d. whole d (DynString 3 ∷ []) [] [] (of_type 5 1 ∷ []) [] (perform call.Write (shown (letter 120) ∷ []) ∷ perform call.Write (shown (predefined call.Copy (value_for 5 (read (variable 1 5) []) ∷ value_for small (num 0) ∷ value_for small (num 1) ∷ []) text) ∷ []) ∷ [])) [] 0 (UndefinedAfter (codes "x") [])
+unfolding run
+text_is_read_before_the_checks = (refl, (refl, tt))

@@ -1,6 +1,6 @@
 -- Units and their initial parts.
-use Rattle.std.proofs.Common.{◌≡◌, [], ◌∷◌, refl}
-use Rattle.std.specs.Prelude.{codes}
+use Rattle.std.proofs.Common.{◌≡◌, [], ◌∷◌, refl, false}
+use Rattle.std.specs.Prelude.{codes, pos}
 use Rattle.p2c_text.specs.declared.dialect.Dialect.TheVariants.{Turbo, Ucsd, Hp}
 use Rattle.typed_tree.specs.declared.types.PasType.TheVariants.{Literal}
 use Rattle.typed_tree.specs.declared.declarations.Callee.TheVariants.{Routine as CalleeRoutine}
@@ -11,7 +11,7 @@ use Rattle.typed_tree.specs.declared.operations.PredefCall.TheVariants as call
 use Rattle.typed_tree.specs.declared.statements.TypedStmt as S
 use Rattle.meanings.specs.Code.{End}
 use Rattle.pascal_meaning.specs.Whole.{run}
-use Rattle.pascal_meaning.proofs.Examples.Build.{integer, small, num, letter, quoted, chain, read, variable, shown, assign_to, labelled, perform, of_type, procedure, unit_of, whole, InEach}
+use Rattle.pascal_meaning.proofs.Examples.Build.{integer, small, num, letter, quoted, chain, read, variable, shown, assign_to, seq, for_of, labelled, perform, of_type, procedure, unit_of, whole, InEach}
 
 -- unit 1: begin write('a') end.
 -- unit 2: begin write('b') end.
@@ -80,3 +80,11 @@ error_in_an_initial_part_in_hp = refl
 unit_uses_a_later_one : run (whole Turbo [] (procedure 1 (Owner.UnitPart 0) [] [] [] (perform call.Write (shown (read (variable 1 small) []) ∷ []) ∷ []) ∷ []) (unit_of [] [] [] ∷ unit_of (of_type small 1 ∷ []) [] (assign_to small (variable 1 small) [] (num 7) ∷ []) ∷ []) [] [] (S.Call (CalleeRoutine 1) [] ∷ [])) [] 1 ≡ End (codes "7") 0 (1 ∷ [])
 unfolding run
 unit_uses_a_later_one = refl
+
+-- each turn begins by storing its value, whatever a routine of the second unit stored before
+-- unit 1: var i: integer; begin for i := 1 to 3 do begin q; write(i) end end.
+-- unit 2: procedure q; begin write(i); i := 7 end;
+-- begin end.
+assignment_by_another_unit_changes_no_turn : InEach (Turbo ∷ Ucsd ∷ []) (λ d. whole d [] (procedure 1 (Owner.UnitPart 1) [] [] [] (perform call.Write (shown (read (variable 1 small) []) ∷ []) ∷ assign_to small (variable 1 small) [] (num 7) ∷ []) ∷ []) (unit_of (of_type small 1 ∷ []) [] (for_of small 1 false (num 1) (num 3) (seq (S.Call (CalleeRoutine 1) [] ∷ perform call.Write (shown (read (variable 1 small) []) ∷ []) ∷ [])) ∷ []) ∷ unit_of [] [] [] ∷ []) [] [] []) [] 6 (End (codes "172737") 0 (1 ∷ 1 ∷ 1 ∷ []))
+unfolding run
+assignment_by_another_unit_changes_no_turn = (refl, (refl, tt))
