@@ -1,0 +1,7 @@
+mod Lookups
+mod Meets
+mod MeetsDeclaration
+mod MeetsExpr
+mod MeetsProgram
+mod MeetsStatement
+mod Reach
