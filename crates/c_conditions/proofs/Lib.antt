@@ -1,3 +1,4 @@
+mod Examples
 mod Lookups
 mod Meets
 mod MeetsDeclaration

@@ -1,5 +1,5 @@
 -- That a step finds whether demands hold.
-use Rattle.std.proofs.Common.{◌≡◌, ℕ, suc, ◌+◌, Bool, true, false, ◌⊎◌, inl, inr, List, [], ◌∷◌, ◌++◌, Ok, Err, refl, sym, ap, subst, ◌∙◌, arith}
+use Rattle.std.proofs.Common.{◌≡◌, ℕ, suc, ◌+◌, Bool, true, false, ◌⊎◌, inl, inr, List, [], ◌∷◌, ◌++◌, Ok, Err, refl, sym, ap, subst, ◌∙◌, add_assoc, arith}
 use Rattle.std.specs.Prelude.{MatchResult}
 use Rattle.std.specs.List.{fold}
 use Rattle.c_grammar.specs.declared.fault.CTextKind.{CTextKind}
@@ -48,13 +48,13 @@ failing_second place (d ∷ more) b f h = inr (failing_second place more b f h)
 
 failing_after : (place n : ℕ) (all : Demands) (f : Failure) → Failing (place + n) all f → Failing place (after n all) f
 failing_after place n [] f h = h
-failing_after place n (d ∷ more) f (inl h) = inl (h.0 ∙ sum_of place n d.0, h.1, h.2)
-  where
-    sum_of : (a b c : ℕ) → a + b + c ≡ a + (b + c)
-    sum_of a b c = omega arith
+failing_after place n (d ∷ more) f (inl h) = inl (h.0 ∙ add_assoc place n d.0, h.1, h.2)
 failing_after place n (d ∷ more) f (inr h) = inr (failing_after place n more f h)
 
 -- ---- steps in a row
+
+pub zero_more : (n : ℕ) → n + 0 ≡ n
+zero_more n = omega arith
 
 -- what comes later
 pub pass_first : {w v x : World} {b : Demands} {n m : ℕ} {s : Outcome} (k : ℕ) → k ≡ n → v.place ≡ w.place + n → Meets v b m x s → Meets w (after k b) (n + m) x s
@@ -85,25 +85,16 @@ pub passed : (w : World) (n : ℕ) → Meets w [] n w (pass n w)
 passed w n = record { is = (tt, refl) }
 
 pub began : (w : World) → Meets w [] 0 w (Ok w)
-began w = record { is = (tt, ap (at w) (zero_more w.place)) }
-  where
-    zero_more : (n : ℕ) → n ≡ n + 0
-    zero_more n = omega arith
+began w = record { is = (tt, ap (at w) (sym (zero_more w.place))) }
 
 pub stayed : (v : World) (place : ℕ) → Meets (at v place) [] 0 v (Ok (at v place))
-stayed v place = record { is = (tt, ap (at v) (zero_more place)) }
-  where
-    zero_more : (n : ℕ) → n ≡ n + 0
-    zero_more n = omega arith
+stayed v place = record { is = (tt, ap (at v) (sym (zero_more place))) }
 
 pub pass_last : {w v : World} {a : Demands} {n : ℕ} {r : Outcome} (m : ℕ) → Meets w a n v r → Meets w a (n + m) v (go_on r (pass m))
 pass_last {w} {v} {a} {n} {r} m h = by r h.is
   where
-    places : (a b c : ℕ) → a + b + c ≡ a + (b + c)
-    places a b c = omega arith
-
     by : (r : Outcome) → MeetsBy w a n v r → Meets w a (n + m) v (go_on r (pass m))
-    by (Ok u) l = record { is = (l.0, ap (λ (z : World). at z (z.place + m)) l.1 ∙ ap (at v) (places w.place n m)) }
+    by (Ok u) l = record { is = (l.0, ap (λ (z : World). at z (z.place + m)) l.1 ∙ ap (at v) (add_assoc w.place n m)) }
     by (Err f) l = record { is = l }
 
 -- what is known changes

@@ -27,7 +27,7 @@ use Rattle.c_conditions.specs.DeclarationSteps.{forward, typedef_type, typedef_r
 use Rattle.c_conditions.specs.TypeSteps.{pointed_type, type_of}
 use Rattle.c_conditions.specs.Conditions.{HoldAllButLevels}
 use Rattle.c_conditions.proofs.Lookups.{some_of}
-use Rattle.c_conditions.proofs.Meets.{Meets, at, pass_first, seq, began, stayed, passed, pass_last, changed, tested, recount, restate, retarget_held, rebase, each_meets, each_meets_where}
+use Rattle.c_conditions.proofs.Meets.{Meets, at, pass_first, seq, zero_more, began, stayed, passed, pass_last, changed, tested, recount, restate, retarget_held, rebase, each_meets, each_meets_where}
 use Rattle.c_conditions.proofs.MeetsExpr.{Knows, KnowsBehind, behind_meets, named_meets, star_count, pointed_meets, type_meets}
 use Rattle.c_conditions.proofs.MeetsStatement.{new_name, old_name}
 use Rattle.c_conditions.proofs.Reach.{seen_names}
@@ -75,9 +75,6 @@ abbrev pub world_after : Seen → World
 world_after seen = let k = known seen in world seen.structs k.pointed seen.typedefs seen.typedefs []
 
 -- ---- names
-
-zero_more : (n : ℕ) → n + 0 ≡ n
-zero_more n = omega arith
 
 pub inner_then : {w v : World} {a : Demands} {n : ℕ} {r : Outcome} (k : ℕ) (name : List ℕ) (above : Names) → k ≡ n → v.inner ≡ seen_names above → Meets w a n v r
     → Meets w (a ++ (k, Differs name above) ∷ []) (n + 1) (record v { inner = seen_names (name ∷ above) }) (go_on r (inner_name name))

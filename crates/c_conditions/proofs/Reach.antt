@@ -43,40 +43,34 @@ times : List ℕ → Names → ℕ
 times name [] = 0
 times name (l ∷ ls) = cond (bytes_eq l name) 1 0 + times name ls
 
+none_more : (n : ℕ) → n ≡ n + 0
+none_more n = omega arith
+
+none_less : (n : ℕ) → n ≡ n - 0
+none_less n = omega arith
+
 raised_is : (l name : List ℕ) (f : List ℕ → ℕ) → raised l f name ≡ f name + cond (bytes_eq l name) 1 0
 raised_is l name f = by (bytes_eq l name) refl
   where
-    none : (n : ℕ) → n ≡ n + 0
-    none n = omega arith
-
     by : (b : Bool) → bytes_eq l name ≡ b → cond b (f l + 1) (f name) ≡ f name + cond b 1 0
     by true e = ap (λ z. f z + 1) ((bytes_eq-Decides l name).0 e)
-    by false e = none (f name)
+    by false e = none_more (f name)
 
 lowered_is : (l name : List ℕ) (f : List ℕ → ℕ) → lowered l f name ≡ f name - cond (bytes_eq l name) 1 0
 lowered_is l name f = by (bytes_eq l name) refl
   where
-    none : (n : ℕ) → n ≡ n - 0
-    none n = omega arith
-
     by : (b : Bool) → bytes_eq l name ≡ b → cond b (f l - 1) (f name) ≡ f name - cond b 1 0
     by true e = ap (λ z. f z - 1) ((bytes_eq-Decides l name).0 e)
-    by false e = none (f name)
+    by false e = none_less (f name)
 
 raise_all_is : (ls : Names) (f : List ℕ → ℕ) (name : List ℕ) → raise_all ls f name ≡ f name + times name ls
 unfolding times
-raise_all_is [] f name = none (f name)
-  where
-    none : (n : ℕ) → n ≡ n + 0
-    none n = omega arith
+raise_all_is [] f name = none_more (f name)
 raise_all_is (l ∷ ls) f name = omega (arith, raise_all_is ls (raised l f) name, raised_is l name f)
 
 lower_all_is : (ls : Names) (f : List ℕ → ℕ) (name : List ℕ) → lower_all ls f name ≡ f name - times name ls
 unfolding times
-lower_all_is [] f name = none (f name)
-  where
-    none : (n : ℕ) → n ≡ n - 0
-    none n = omega arith
+lower_all_is [] f name = none_less (f name)
 lower_all_is (l ∷ ls) f name = omega (arith, lower_all_is ls (lowered l f) name, lowered_is l name f)
 
 -- what is raised and lowered is as it was
@@ -92,10 +86,7 @@ Reaches reached f = (name : List ℕ) → nat_lt 0 (f name) ≡ among name reach
 
 counted : (ls : Names) (name : List ℕ) (n : ℕ) → nat_lt 0 (n + times name ls) ≡ (among name ls || nat_lt 0 n)
 unfolding times
-counted [] name n = ap (nat_lt 0) (none n)
-  where
-    none : (n : ℕ) → n + 0 ≡ n
-    none n = omega arith
+counted [] name n = ap (nat_lt 0) (sym (none_more n))
 counted (l ∷ ls) name n = by (bytes_eq l name) (counted ls name n)
   where
     some : (n t : ℕ) → nat_lt 0 (n + (1 + t)) ≡ true

@@ -138,7 +138,7 @@ impl<'a> Checker<'a> {
     }
 
     /// A typedef up to its name.
-    fn typedef_name_above(&mut self, typedef: &'a CTypedef) -> Result<(), ConditionFault>
+    fn typedef_head(&mut self, typedef: &'a CTypedef) -> Result<(), ConditionFault>
         ensures { Gives result (seen self.new) (spec.typedef_head typedef.now.result typedef.now.name (seen self.old)) }
     {
         self.pass(1)?;
@@ -153,7 +153,7 @@ impl<'a> Checker<'a> {
     fn typedef(&mut self, typedef: &'a CTypedef) -> Result<(), ConditionFault>
         ensures { Gives result (seen self.new) (spec.typedef typedef.now (seen self.old)) }
     {
-        self.typedef_name_above(typedef)?;
+        self.typedef_head(typedef)?;
         self.pass(3)?;
         self.typedef_types(typedef.parameters.as_slice())?;
         self.typedefs.add(typedef.name.as_slice())?;

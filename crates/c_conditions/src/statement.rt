@@ -3,7 +3,6 @@
 ghost use Rattle.std.specs.Prelude.{◌≡◌};
 ghost use Rattle.c_tree.specs.Tree.{body_of};
 ghost use Rattle.c_conditions.specs.World.{seen};
-ghost use Rattle.c_conditions.specs.ExprSteps.{expr_step};
 ghost use Rattle.c_conditions.specs.StatementSteps as spec;
 ghost use Rattle.c_conditions.specs.Steps.{Gives, each};
 
