@@ -1,4 +1,5 @@
 mod ByByte
 mod ByLetter
+mod Examples
 mod Pieces
 mod Turns

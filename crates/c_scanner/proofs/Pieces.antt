@@ -13,7 +13,7 @@ use Rattle.c_scanner.specs.Fronts.{IsFront}
 use Rattle.c_scanner.proofs.ByLetter.{word_is}
 use Rattle.c_scanner.proofs.ByByte.{mark_is, pair_is}
 
-decide : (b : Bool) → (b ≡ true) ⊎ (b ≡ false)
+pub decide : (b : Bool) → (b ≡ true) ⊎ (b ≡ false)
 decide true = inl refl
 decide false = inr refl
 

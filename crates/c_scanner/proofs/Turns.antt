@@ -1,5 +1,5 @@
 -- One turn of cutting, and where it stops.
-use Rattle.std.proofs.Common.{◌≡◌, ℕ, ◌+◌, ◌<◌, Bool, true, false, ◌==◌, ◌⊎◌, inl, inr, IsTrue, List, [], ◌∷◌, ◌++◌, length, take, drop, Option, Some, None, Result, Ok, Err, refl, sym, ap, subst, ◌∙◌, arith, length-append, take-append-drop}
+use Rattle.std.proofs.Common.{◌≡◌, ℕ, ◌+◌, ◌<◌, Bool, true, false, ◌==◌, inl, inr, IsTrue, List, [], ◌∷◌, ◌++◌, length, take, drop, Option, Some, None, Result, Ok, Err, refl, sym, ap, subst, ◌∙◌, arith, length-append, take-append-drop}
 use Rattle.std.specs.List.{list_all}
 use Rattle.std.specs.Str.Parse.{digits_value}
 use Rattle.c_grammar.specs.declared.token.Word.{Word}
@@ -12,6 +12,7 @@ use Rattle.c_scanner.specs.Cut.{White, Nothing}
 use Rattle.c_scanner.specs.Fronts.{IsPiece, IsFront}
 use Rattle.c_scanner.specs.Head.{later, strip}
 use Rattle.c_scanner.specs.Scan.{HasNoTokens}
+use Rattle.c_scanner.proofs.Pieces.{decide}
 
 -- ---- the head lines
 
@@ -22,10 +23,6 @@ later_ok n (Err m) rest e = absurd (cc)
 later_err : (n : ℕ) (r : Result (List ℕ) ℕ) (k : ℕ) → later n r ≡ Err k → (m : ℕ) × (r ≡ Err m) × (k ≡ n + m)
 later_err n (Ok r) k e = absurd (cc)
 later_err n (Err m) k e = (m, refl, cc)
-
-decide : (b : Bool) → (b ≡ true) ⊎ (b ≡ false)
-decide true = inl refl
-decide false = inr refl
 
 pub stripped : (lines bytes rest : List ℕ) → strip lines bytes ≡ Ok rest → bytes ≡ lines ++ rest
 unfolding strip
@@ -55,7 +52,7 @@ differ (line ∷ lines) (b ∷ more) n e =
           let same : b ≡ line = grind arith in
           let inner = later_err 1 (strip lines more) n (rw q at e) in
           let d = differ lines more inner.0 inner.1 in
-          (line ∷ d.0, d.1, d.2, d.3, ap (λ (l : List ℕ). line ∷ l) d.4, (λ i. same i ∷ d.5 i), d.6, omega (arith, inner.2, d.7))
+          (line ∷ d.0, d.1, d.2, d.3, (λ i. line ∷ d.4 i), (λ i. same i ∷ d.5 i), d.6, omega (arith, inner.2, d.7))
       | inr q ↦ let z : 0 ≡ n = let e' = rw q at e in cc in
           ([], line, lines, b ∷ more, refl, refl, (λ others h. absurd (unlike b line q (cc))), sym z)
     ]

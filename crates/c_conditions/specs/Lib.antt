@@ -1,0 +1,10 @@
+pub mod Cells
+pub mod Conditions
+pub mod DeclarationSteps
+pub mod ExprSteps
+pub mod Names
+pub mod ProgramSteps
+pub mod StatementSteps
+pub mod Steps
+pub mod TypeSteps
+pub mod World
