@@ -1,0 +1,6 @@
+pub mod Classes
+pub mod Depth
+pub mod Expressions
+pub mod Programs
+pub mod Statements
+pub mod Types
