@@ -6,3 +6,4 @@ pub mod FairTypes
 pub mod Holes
 pub mod PartsHoles
 pub mod Pushed
+pub mod Shrinks
