@@ -7,3 +7,6 @@ pub mod Holes
 pub mod PartsHoles
 pub mod Pushed
 pub mod Shrinks
+pub mod TrackedExpressions
+pub mod TrackedTokens
+pub mod TrackedTypes

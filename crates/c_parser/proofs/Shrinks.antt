@@ -1,16 +1,16 @@
 -- No parser gives tokens back.
-use Rattle.std.proofs.Common.{ℕ, zero, suc, Bool, true, false, List, [], ◌∷◌, length, Option, Some, None}
-use Rattle.c_tree.specs.Tree.{ObjectType, Expr, Place, Variable, Pointee, Member, Index, Statement}
+use Rattle.std.proofs.Common.{ℕ, zero, suc, Bool, true, false, List, [], ◌∷◌, length, Option, Some, None, Ok}
+use Rattle.c_tree.specs.Tree.{ObjectType, VoidPointer, Expr, Place, Variable, Pointee, Member, Index, Statement}
 use Rattle.c_tree.specs.declared.statement.CCallee.{CCallee}
 use Rattle.c_tree.specs.declared.program.CVariable.{CVariable}
 use Rattle.c_tree.specs.declared.program.CMember.{CMember}
 use Rattle.c_grammar.specs.declared.token.Word.TheVariants as word
 use Rattle.c_grammar.specs.declared.token.Mark.TheVariants as mark
 use Rattle.c_grammar.specs.Token.{Token}
-use Rattle.token_parsing.specs.Parser.{Parser, begins}
+use Rattle.token_parsing.specs.Parser.{Parser, and_then, begins, either}
 use Rattle.token_parsing.proofs.Tracked.{Shrinks, refuses_short, short, one_shrinks, then_shrinks, pure_shrinks, refuse_shrinks, stop_shrinks, either_shrinks, repeat_shrinks}
 use Rattle.c_parser.specs.declared.program.Parts.{Parts}
-use Rattle.c_parser.specs.Classes.{names, words, marks, unaries}
+use Rattle.c_parser.specs.Classes.{names, words, marks, unaries, expect}
 use Rattle.c_parser.specs.Types.{struct_type, byte_type, void_pointer, base_type, pointer_to, stars, object_type, after_void, result_type, struct_pointer, void_cast, cast_type}
 use Rattle.c_parser.specs.Expressions.{number, word_number, null, member, element, selected, begins_selector, selectors, pointee, variable, base_place, place, read_pointee, address, unary, binary, cast, begins_cast, opened, read_variable, expr_by, expr}
 use Rattle.c_parser.specs.Statements.{next_argument, some_arguments, listed_arguments, call, indirect, callee, calls, malloc, get_char, value, call_into, assigned, callee_of, label_of, called, labelled, placed, free, put_char, goto, returned, return, no_brace, next_statement, statements, body, test, otherwise, conditional, while_loop, simple, statement_by, statement}
@@ -40,10 +40,14 @@ pub type_shrinks : Shrinks object_type
 unfolding object_type
 type_shrinks = then_shrinks base_type_shrinks stars_shrinks
 
+-- after `void`
+pub after_shrinks : (a : Unit {0}) → Shrinks {T = Token} {A = Option ObjectType} (either (begins (marks mark.Star)) (λ s. and_then (expect mark.Star s) (λ _ s. and_then (stars VoidPointer s) (λ of s. Ok (Some of, s)))) (λ s. Ok (None, s)))
+after_shrinks a = either_shrinks (begins (marks mark.Star)) (then_shrinks (one_shrinks _) (λ _. then_shrinks (stars_shrinks _) (λ of. pure_shrinks _))) (pure_shrinks _)
+
 pub result_shrinks : Shrinks result_type
 unfolding result_type after_void
 result_shrinks =
-    either_shrinks (begins (words word.Void)) (then_shrinks (one_shrinks _) (λ _. either_shrinks (begins (marks mark.Star)) (then_shrinks (one_shrinks _) (λ _. then_shrinks (stars_shrinks _) (λ of. pure_shrinks _))) (pure_shrinks _)))
+    either_shrinks (begins (words word.Void)) (then_shrinks (one_shrinks _) after_shrinks)
     (then_shrinks type_shrinks (λ of. pure_shrinks _))
 
 pub cast_type_shrinks : Shrinks cast_type
