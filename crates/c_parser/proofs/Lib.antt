@@ -7,6 +7,8 @@ pub mod Holes
 pub mod PartsHoles
 pub mod Pushed
 pub mod Shrinks
+pub mod TrackedCalls
 pub mod TrackedExpressions
+pub mod TrackedStatements
 pub mod TrackedTokens
 pub mod TrackedTypes

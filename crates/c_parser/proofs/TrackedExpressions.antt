@@ -34,12 +34,12 @@ selector_steady _ _ _ (longer n t w r h) = refl
 -- ---- with what an expression begins
 
 -- the tests after an opening parenthesis fail
-record Starts (w : List Token) : Type 0 where
-  star : begins (marks mark.Star) w ≡ false
-  ampersand : begins (marks mark.Ampersand) w ≡ false
-  sign : begins unaries w ≡ false
-  word : begins cast_words w ≡ false
-  no_cast : begins_cast w ≡ false
+pub record Starts (w : List Token) : Type 0 where
+  pub star : begins (marks mark.Star) w ≡ false
+  pub ampersand : begins (marks mark.Ampersand) w ≡ false
+  pub sign : begins unaries w ≡ false
+  pub word : begins cast_words w ≡ false
+  pub no_cast : begins_cast w ≡ false
 
 place_starts : (p : Place) (w : List Token) → Starts (spell_place p w)
 unfolding begins same_mark
@@ -52,7 +52,7 @@ unary_no_word : (op : CUnary) (w : List Token) → begins cast_words (Sign (unar
 unfolding begins
 unary_no_word op w = refl
 
-expr_starts : (e : Expr) (w : List Token) → Starts (spell_expr e w)
+pub expr_starts : (e : Expr) (w : List Token) → Starts (spell_expr e w)
 unfolding begins same_mark
 expr_starts (Read p) w = place_starts p w
 expr_starts (Number n) w = record { star = refl; ampersand = refl; sign = refl; word = refl; no_cast = refl }
@@ -63,7 +63,7 @@ expr_starts (Unary op a) w = record { star = refl; ampersand = refl; sign = refl
 expr_starts (Binary op a b) w = record { star = refl; ampersand = refl; sign = refl; word = refl; no_cast = (expr_starts a (Sign (binary_mark op) ∷ spell_expr b (Sign mark.Close ∷ w))).word }
 expr_starts (Cast to a) w = record { star = refl; ampersand = refl; sign = refl; word = refl; no_cast = refl }
 
-unary_no_star : (op : CUnary) (w : List Token) → begins (marks mark.Star) (Sign (unary_mark op) ∷ w) ≡ false
+pub unary_no_star : (op : CUnary) (w : List Token) → begins (marks mark.Star) (Sign (unary_mark op) ∷ w) ≡ false
 unfolding begins same_mark
 unary_no_star unary_.Minus w = refl
 unary_no_star unary_.Not w = refl

@@ -1,5 +1,5 @@
 -- A text of the grammar is followed: as long as the tokens are those of the text, none is refused.
-use Rattle.std.proofs.Common.{◌≡◌, ℕ, zero, suc, ◌<◌, ◌≤◌, Bool, true, false, List, [], ◌∷◌, ◌++◌, length, Option, Some, None, Result, Ok, Err, refl, sym, ap, subst, ◌∙◌, append_assoc, arith}
+use Rattle.std.proofs.Common.{◌≡◌, ℕ, zero, suc, ◌<◌, ◌≤◌, Bool, true, false, List, [], ◌∷◌, ◌++◌, length, Option, Some, None, Result, Ok, Err, ◌⊎◌, inl, inr, refl, sym, ap, subst, ◌∙◌, append_assoc, arith}
 use Rattle.std.specs.List.{AllByRecursion}
 use Rattle.std.proofs.lemmas.List.{append-nil}
 use Rattle.token_parsing.specs.declared.refusal.Refusal.TheVariants.{Unexpected, TooDeep}
@@ -106,6 +106,12 @@ pub along_front : {T : Type 0} (u : List T) (t : T) (w r : List T) → Along (su
 along_front [] t w r = last t w r
 along_front (a ∷ u) t w r = longer (suc (length r)) a (u ++ t ∷ w) (u ++ t ∷ r) (along_front u t w r)
 
+-- where the tokens after a front are known no more, others may follow the front
+pub along_split : {T : Type 0} (n : ℕ) (u w s : List T) → Along n (u ++ w) s → ((0 < n) × ((z : List T) → Along n (u ++ z) s)) ⊎ ((r : List T) × (s ≡ u ++ r) × Along n w r)
+along_split n [] w s h = inr (s, refl, h)
+along_split _ (t ∷ u) w _ (last _ _ r) = inl (omega arith, λ z. last t (u ++ z) r)
+along_split n (t ∷ u) w _ (longer _ _ _ r h) = elim (along_split n u w r h) [ inl x ↦ inl (x.0, λ z. longer n t (u ++ z) r (x.1 z)) | inr y ↦ inr (y.0, ap (λ z. t ∷ z) y.1, y.2) ]
+
 -- a test of the next token sees that of the text
 pub same_begins : {T A : Type 0} (class : Class T A) {n : ℕ} {w s : List T} → Along n w s → begins class s ≡ begins class w
 unfolding begins
@@ -164,6 +170,16 @@ begun (Some a) t r f e k = k a (suc (length r)) r (omega arith)
 pub begun_short : {T A B : Type 0} (class : Class T A) (t : T) (r : List T) {f : A → Parser T B} → begins class (t ∷ r) ≡ true → ((a : A) → Shrinks (f a)) → Short (suc (length r)) (and_then (one_of class (t ∷ r)) f)
 unfolding one_of begins
 begun_short class t r {f} e k = begun (class t) t r f e k
+
+along_nothing : {T : Type 0} {n : ℕ} {s : List T} → Along n [] s → n ≡ 0
+along_nothing ended = refl
+
+-- In a text that ends before the known tokens do, the tokens are past those.
+pub other_text : {T A : Type 0} {n : ℕ} {V W : Type 0} {x y : A} {rest : List T} {o : Outcome T A} → 0 < n → Tracked n V x [] o → Tracked n W y rest o
+other_text some (meets r h) = let none = along_nothing h in absurd (omega (arith, some, none))
+other_text some (past a r h) = past a r h
+other_text some (refuses_past k h) = refuses_past k h
+other_text some (too_deep k h) = too_deep k (λ w. some)
 
 -- ---- one after the other, grouped otherwise
 
