@@ -444,3 +444,216 @@ module _ (n : ℕ) (W : Type 0) (d : ℕ) (child : Parser Token Expr) (shrinks :
       (track_first (begins (words word.Return) s) _ _ (same_begins (words word.Return) h)
       (word_tracked word.Return h (λ _. then_shrinks (returned_shrinks child shrinks) (λ _. then_shrinks (one_shrinks _) (λ _. pure_shrinks _))) (λ r h.
       track_then (returned_tracked a is deep rest r h) (λ _. then_shrinks (one_shrinks _) (λ _. pure_shrinks _)) (λ r h. mark_tracked mark.Semicolon h (λ _. pure_shrinks _) (λ r h. track_pure (Return a) h)))))))
+
+  -- ---- statements with bodies
+
+  module _ (inside : Parser Token Statement) (shrinks' : Shrinks inside) (takes' : (s : List Token) → Takes (length s) (inside s)) (good' : StatementTracked n W d inside) where
+    next_takes : (found : List Statement) (s : List Token) → Takes (length s) (next_statement inside found s)
+    unfolding next_statement
+    next_takes found s = takes_then (length s) (inside s) (takes' s) (λ _. pure_shrinks _)
+
+    statement_list : Listing n W spell_statement (λ all. spell_body (body_of all)) no_brace (next_statement inside) NoElse
+    statement_list = record {
+      none = λ rest. refl;
+      one_more = λ x more rest. refl;
+      steady = brace_steady;
+      takes = next_takes;
+      shrinks = next_statement_shrinks child shrinks inside shrinks';
+      some = λ x rest. (statement_begun x rest).some;
+      goes = λ x rest. (statement_begun x rest).no_brace;
+      follows = λ x rest. (statement_begun x rest).no_else;
+    }
+
+    statement_items : (all : List Statement) → IsBody (body_of all) → (W → body_depth (body_of all) ≤ d)
+        → AllByRecursion (Item n W spell_statement (λ all. spell_body (body_of all)) no_brace (next_statement inside) NoElse) all
+    unfolding next_statement
+    statement_items [] is deep = tt
+    statement_items (a ∷ more) is deep =
+        (λ found rest s none h. track_then (good' a is.0 (λ w. let all = deep w in grind (arith, all)) rest s none h) (λ _. pure_shrinks _) (λ r h. track_pure (found ++ a ∷ []) h),
+        statement_items more is.1 (λ w. let all = deep w in grind (arith, all)))
+
+    pub statements_tracked : (all : List Statement) → IsBody (body_of all) → (W → body_depth (body_of all) ≤ d) → (rest s : List Token) → Along n (spell_body (body_of all) (Sign mark.CloseBrace ∷ rest)) s
+        → Tracked n W all (Sign mark.CloseBrace ∷ rest) (statements inside s)
+    unfolding statements
+    statements_tracked all is deep rest s h =
+        track_list n W spell_statement (λ all. spell_body (body_of all)) no_brace (next_statement inside) NoElse statement_list all (statement_items all is deep) (Sign mark.CloseBrace ∷ rest) (brace_next rest).1 (brace_next rest).0 [] s h
+
+    body_tracked : (all : List Statement) → IsBody (body_of all) → (W → body_depth (body_of all) ≤ d) → (rest s : List Token) → Along n (Sign mark.OpenBrace ∷ spell_body (body_of all) (Sign mark.CloseBrace ∷ rest)) s
+        → Tracked n W all rest (body inside s)
+    unfolding body
+    body_tracked all is deep rest s h =
+        mark_tracked mark.OpenBrace h (λ _. then_shrinks (statements_shrinks child shrinks inside shrinks') (λ _. then_shrinks (one_shrinks _) (λ _. pure_shrinks _))) (λ r h.
+        track_then (statements_tracked all is deep rest r h) (λ _. then_shrinks (one_shrinks _) (λ _. pure_shrinks _)) (λ r h. mark_tracked mark.CloseBrace h (λ _. pure_shrinks _) (λ r h. track_pure all h)))
+
+    test_tracked : (a : Expr) → IsExpr a → (W → expr_depth a ≤ d) → (rest s : List Token) → Along n (Sign mark.Open ∷ spell_expr a (Sign mark.Close ∷ rest)) s → Tracked n W a rest (test child s)
+    unfolding test
+    test_tracked a is deep rest s h =
+        mark_tracked mark.Open h (λ _. then_shrinks shrinks (λ _. then_shrinks (one_shrinks _) (λ _. pure_shrinks _))) (λ r h.
+        track_then (good n W a is deep (Sign mark.Close ∷ rest) r (no_selector_mark rest).0 h) (λ _. then_shrinks (one_shrinks _) (λ _. pure_shrinks _)) (λ r h. mark_tracked mark.Close h (λ _. pure_shrinks _) (λ r h. track_pure a h)))
+
+    -- up to the end of the first body
+    headed_tracked : (y : Statement) (rest : List Token) (a : Expr) (all : List Statement) → IsExpr a → IsBody (body_of all) → (W → expr_depth a ≤ d) → (W → body_depth (body_of all) ≤ d) → (w s : List Token)
+        → Along n (Quoted word.If ∷ Sign mark.Open ∷ spell_expr a (Sign mark.Close ∷ Sign mark.OpenBrace ∷ spell_body (body_of all) (Sign mark.CloseBrace ∷ w))) s
+        → ((r : List Token) → Along n w r → Tracked n W y rest (either (begins (words word.Else)) (otherwise inside a all) (λ s. Ok (If a (body_of all), s)) r)) → Tracked n W y rest (conditional child inside s)
+    unfolding conditional
+    headed_tracked y rest a all isa isb deep deep' w s h k =
+        let ends : (a : Expr) (all : List Statement) → Shrinks (either (begins (words word.Else)) (otherwise inside a all) (λ s. Ok (If a (body_of all), s))) =
+            λ a all. either_shrinks (begins (words word.Else)) (otherwise_shrinks child shrinks inside shrinks' a all) (pure_shrinks (If a (body_of all))) in
+        word_tracked word.If h (λ _. then_shrinks (test_shrinks child shrinks) (λ a. then_shrinks (body_shrinks child shrinks inside shrinks') (ends a))) (λ r h.
+        track_then (test_tracked a isa deep (Sign mark.OpenBrace ∷ spell_body (body_of all) (Sign mark.CloseBrace ∷ w)) r h) (λ a. then_shrinks (body_shrinks child shrinks inside shrinks') (ends a)) (λ r h.
+        track_then (body_tracked all isb deep' w r h) (ends a) k))
+
+    if_tracked : (a : Expr) (all : List Statement) → IsExpr a → IsBody (body_of all) → (W → statement_depth (If a (body_of all)) ≤ suc d) → (rest s : List Token) → NoElse rest
+        → Along n (spell_statement (If a (body_of all)) rest) s → Tracked n W (If a (body_of all)) rest (conditional child inside s)
+    if_tracked a all isa isb deep rest s none h =
+        headed_tracked (If a (body_of all)) rest a all isa isb (λ w. let all = deep w in grind (arith, all)) (λ w. let all = deep w in grind (arith, all)) rest s h
+          (λ r h. track_second (begins (words word.Else) r) _ _ (same_begins (words word.Else) h ∙ none) (track_pure (If a (body_of all)) h))
+
+    if_else_tracked : (a : Expr) (all more : List Statement) → IsExpr a → IsBody (body_of all) → IsBody (body_of more) → (W → statement_depth (IfElse a (body_of all) (body_of more)) ≤ suc d) → (rest s : List Token)
+        → Along n (spell_statement (IfElse a (body_of all) (body_of more)) rest) s → Tracked n W (IfElse a (body_of all) (body_of more)) rest (conditional child inside s)
+    unfolding otherwise begins same_word
+    if_else_tracked a all more isa isb isc deep rest s h =
+        let y = IfElse a (body_of all) (body_of more) in
+        headed_tracked y rest a all isa isb (λ w. let all = deep w in grind (arith, all)) (λ w. let all = deep w in grind (arith, all)) (Quoted word.Else ∷ Sign mark.OpenBrace ∷ spell_body (body_of more) (Sign mark.CloseBrace ∷ rest)) s h
+          (λ r h. track_first (begins (words word.Else) r) _ _ (same_begins (words word.Else) h)
+            (word_tracked word.Else h (λ _. then_shrinks (body_shrinks child shrinks inside shrinks') (λ more. pure_shrinks (IfElse a (body_of all) (body_of more)))) (λ r h.
+            track_then (body_tracked more isc (λ w. let all = deep w in grind (arith, all)) rest r h) (λ more. pure_shrinks (IfElse a (body_of all) (body_of more))) (λ r h. track_pure y h))))
+
+    while_tracked : (a : Expr) (all : List Statement) → IsExpr a → IsBody (body_of all) → (W → statement_depth (While a (body_of all)) ≤ suc d) → (rest s : List Token)
+        → Along n (spell_statement (While a (body_of all)) rest) s → Tracked n W (While a (body_of all)) rest (while_loop child inside s)
+    unfolding while_loop
+    while_tracked a all isa isb deep rest s h =
+        word_tracked word.While h (λ _. then_shrinks (test_shrinks child shrinks) (λ a. then_shrinks (body_shrinks child shrinks inside shrinks') (λ all. pure_shrinks (While a (body_of all))))) (λ r h.
+        track_then (test_tracked a isa (λ w. let all = deep w in grind (arith, all)) (Sign mark.OpenBrace ∷ spell_body (body_of all) (Sign mark.CloseBrace ∷ rest)) r h)
+          (λ a. then_shrinks (body_shrinks child shrinks inside shrinks') (λ all. pure_shrinks (While a (body_of all)))) (λ r h.
+        track_then (body_tracked all isb (λ w. let all = deep w in grind (arith, all)) rest r h) (λ all. pure_shrinks (While a (body_of all))) (λ r h. track_pure (While a (body_of all)) h)))
+
+    -- a statement that is no `if` and no `while`
+    is_simple : (y : Statement) (rest w s : List Token) → Along n w s → (begins (words word.If) w ≡ false) × (begins (words word.While) w ≡ false) → Tracked n W y rest (simple child s) → Tracked n W y rest (statement_by child inside s)
+    unfolding statement_by
+    is_simple y rest w s h none k =
+        track_second (begins (words word.If) s) _ _ (same_begins (words word.If) h ∙ none.0) (track_second (begins (words word.While) s) _ _ (same_begins (words word.While) h ∙ none.1) k)
+
+    by_place_there : (p : Place) → IsPlace p → (W → place_depth p ≤ d) → (y : Statement) (rest w s : List Token) → NoSelector w → Along n (spell_place p w) s → ((r : List Token) → Along n w r → Tracked n W y rest (placed child p r)) → Tracked n W y rest (statement_by child inside s)
+    by_place_there p is deep y rest w s none h k = is_simple y rest (spell_place p w) s h (place_no_word p w word.If, place_no_word p w word.While) (by_place p is deep y rest w s none h k)
+
+    is_if : (y : Statement) (rest w s : List Token) → Along n (Quoted word.If ∷ w) s → Tracked n W y rest (conditional child inside s) → Tracked n W y rest (statement_by child inside s)
+    unfolding statement_by begins same_word
+    is_if y rest w s h k = track_first (begins (words word.If) s) _ _ (same_begins (words word.If) h) k
+
+    is_while : (y : Statement) (rest w s : List Token) → Along n (Quoted word.While ∷ w) s → Tracked n W y rest (while_loop child inside s) → Tracked n W y rest (statement_by child inside s)
+    unfolding statement_by begins same_word
+    is_while y rest w s h k = track_second (begins (words word.If) s) _ _ (same_begins (words word.If) h) (track_first (begins (words word.While) s) _ _ (same_begins (words word.While) h) k)
+
+    no_body_words : (w : List Token) → (begins (words word.If) (Quoted word.Free ∷ w) ≡ false) × (begins (words word.While) (Quoted word.Free ∷ w) ≡ false)
+        × (begins (words word.If) (Quoted word.PutChar ∷ w) ≡ false) × (begins (words word.While) (Quoted word.PutChar ∷ w) ≡ false) × (begins (words word.If) (Quoted word.Goto ∷ w) ≡ false) × (begins (words word.While) (Quoted word.Goto ∷ w) ≡ false)
+        × (begins (words word.If) (Quoted word.Return ∷ w) ≡ false) × (begins (words word.While) (Quoted word.Return ∷ w) ≡ false)
+    unfolding begins same_word
+    no_body_words w = (refl, refl, refl, refl, refl, refl, refl, refl)
+
+    -- a list of statements in place of a body
+    abbrev There : Statement → List Token → List Token → Type 0
+    There a rest s = IsStatement a → (W → statement_depth a ≤ suc d) → Along n (spell_statement a rest) s → Tracked n W a rest (statement_by child inside s)
+
+    statement_by_tracked : StatementTracked n W (suc d) (statement_by child inside)
+    statement_by_tracked (Assign p a) is deep rest s none h =
+        by_place_there p is.0 (λ w. let all = deep w in grind (arith, all)) (Assign p a) rest (Sign mark.Assign ∷ spell_expr a (Sign mark.Semicolon ∷ rest)) s (no_selector_mark _).4 h
+          (λ r h. value_there p a is.1 (λ w. let all = deep w in grind (arith, all)) rest r h)
+    statement_by_tracked (Call (Some p) c all) is deep rest s none h =
+        by_place_there p is.0 (λ w. let all = deep w in grind (arith, all)) (Call (Some p) c all) rest (Sign mark.Assign ∷ spell_callee c (Sign mark.Open ∷ spell_listed spell_expr all (Sign mark.Close ∷ Sign mark.Semicolon ∷ rest))) s (no_selector_mark _).4 h
+          (λ r h. call_there p c all is.1 (λ w. let all = deep w in grind (arith, all)) is.2 (λ w. let all = deep w in grind (arith, all)) rest r h)
+    statement_by_tracked (Call None (Direct name) all) is deep rest s none h =
+        by_place_there (Variable name) is.1 (λ w. omega arith) (Call None (Direct name) all) rest (Sign mark.Open ∷ spell_listed spell_expr all (Sign mark.Close ∷ Sign mark.Semicolon ∷ rest)) s (no_selector_mark _).5 h
+          (λ r h. plain_call (Variable name) (Direct name) all refl is.2 (λ w. let all = deep w in grind (arith, all)) rest r h)
+    statement_by_tracked (Call None (Indirect a) all) is deep rest s none h =
+        by_place_there (Pointee a) is.1 (λ w. let all = deep w in grind (arith, all)) (Call None (Indirect a) all) rest (Sign mark.Open ∷ spell_listed spell_expr all (Sign mark.Close ∷ Sign mark.Semicolon ∷ rest)) s (no_selector_mark _).5 h
+          (λ r h. plain_call (Pointee a) (Indirect a) all refl is.2 (λ w. let all = deep w in grind (arith, all)) rest r h)
+    statement_by_tracked (Malloc p of) is deep rest s none h =
+        by_place_there p is.0 (λ w. let all = deep w in omega (arith, all)) (Malloc p of) rest _ s (no_selector_mark _).4 h (λ r h. malloc_tracked p of rest r h)
+    statement_by_tracked (GetChar p) is deep rest s none h =
+        by_place_there p is (λ w. let all = deep w in omega (arith, all)) (GetChar p) rest _ s (no_selector_mark _).4 h (λ r h. get_char_tracked p rest r h)
+    statement_by_tracked (Label l) is deep rest s none h =
+        by_place_there (Variable l) is (λ w. omega arith) (Label l) rest (Sign mark.Colon ∷ Sign mark.Semicolon ∷ rest) s (no_selector_mark _).6 h (λ r h. label_tracked l rest r h)
+    statement_by_tracked (Free a) is deep rest s none h =
+        let no = no_body_words (Sign mark.Open ∷ spell_expr a (Sign mark.Close ∷ Sign mark.Semicolon ∷ rest)) in
+        is_simple (Free a) rest _ s h (no.0, no.1) (free_tracked a is (λ w. let all = deep w in omega (arith, all)) rest s h)
+    statement_by_tracked (PutChar a) is deep rest s none h =
+        let no = no_body_words (Sign mark.Open ∷ spell_expr a (Sign mark.Close ∷ Sign mark.Semicolon ∷ rest)) in
+        is_simple (PutChar a) rest _ s h (no.2, no.3) (put_char_tracked a is (λ w. let all = deep w in omega (arith, all)) rest s h)
+    statement_by_tracked (Goto l) is deep rest s none h =
+        let no = no_body_words (Identifier l ∷ Sign mark.Semicolon ∷ rest) in is_simple (Goto l) rest _ s h (no.4, no.5) (goto_tracked l rest s h)
+    statement_by_tracked (Return a) is deep rest s none h =
+        let no = no_body_words (spell_value a (Sign mark.Semicolon ∷ rest)) in is_simple (Return a) rest _ s h (no.6, no.7) (return_tracked a is (λ w. let all = deep w in omega (arith, all)) rest s h)
+    statement_by_tracked (If a b) is deep rest s none h =
+        subst (λ b. There (If a b) rest s) (body_of-list_of b) (λ is deep h. is_if _ rest _ s h (if_tracked a (list_of b) is.0 is.1 deep rest s none h)) is deep h
+    statement_by_tracked (IfElse a b c) is deep rest s none h =
+        subst (λ b. There (IfElse a b c) rest s) (body_of-list_of b) (subst (λ c. There (IfElse a (body_of (list_of b)) c) rest s) (body_of-list_of c)
+          (λ is deep h. is_if _ rest _ s h (if_else_tracked a (list_of b) (list_of c) is.0 is.1 is.2 deep rest s h))) is deep h
+    statement_by_tracked (While a b) is deep rest s none h =
+        subst (λ b. There (While a b) rest s) (body_of-list_of b) (λ is deep h. is_while _ rest _ s h (while_tracked a (list_of b) is.0 is.1 deep rest s h)) is deep h
+
+-- ---- the whole
+
+star_taken : (d : ℕ) (r : List Token) → Short (suc (length r)) (expr_by (expr d) (Sign mark.Open ∷ Sign mark.Star ∷ r))
+unfolding expr_by opened read_pointee pointee one_of begins same_mark
+star_taken d r =
+    then_shrinks (then_shrinks (expr_shrinks d) (λ a. then_shrinks (one_shrinks _) (λ _. pure_shrinks _))) (λ p. then_shrinks (selectors_shrinks (expr d) (expr_shrinks d) p) (λ q. pure_shrinks (Read q))) (suc (length r)) r (omega arith)
+
+expr_taking : (d : ℕ) → Taking (expr d)
+unfolding expr expr_by read_variable variable begins same_mark
+expr_taking zero = record { name = λ name r. stops_short _; open_ = λ r. stops_short _; star = λ r. stops_short _ }
+expr_taking (suc d) = record {
+  name = λ name r. short_then (begun_short names (Identifier name) r refl (λ _. pure_shrinks _)) (λ p. then_shrinks (selectors_shrinks (expr d) (expr_shrinks d) p) (λ q. pure_shrinks (Read q)));
+  open_ = λ r. begun_short (marks mark.Open) (Sign mark.Open) r refl (λ _. opened_shrinks (expr d) (expr_shrinks d));
+  star = star_taken d;
+}
+
+module _ (child : Parser Token Expr) (shrinks : Shrinks child) (s : List Token) where
+  place_takes : Takes (length s) (place child s)
+  unfolding place base_place variable
+  place_takes = takes_then (length s) (base_place child s)
+      (takes_either (length s) (begins names s) _ _ (takes_token names s (λ _. pure_shrinks _)) (takes_token (marks mark.Open) s (λ _. pointee_shrinks child shrinks))) (selectors_shrinks child shrinks)
+
+  simple_takes : Takes (length s) (simple child s)
+  unfolding simple free put_char goto return
+  simple_takes =
+      takes_either (length s) (begins (words word.Free) s) _ _ (takes_token (words word.Free) s (λ _. then_shrinks (one_shrinks _) (λ _. then_shrinks shrinks (λ _. then_shrinks (one_shrinks _) (λ _. then_shrinks (one_shrinks _) (λ _. pure_shrinks _))))))
+      (takes_either (length s) (begins (words word.PutChar) s) _ _ (takes_token (words word.PutChar) s (λ _. then_shrinks (one_shrinks _) (λ _. then_shrinks shrinks (λ _. then_shrinks (one_shrinks _) (λ _. then_shrinks (one_shrinks _) (λ _. pure_shrinks _))))))
+      (takes_either (length s) (begins (words word.Goto) s) _ _ (takes_token (words word.Goto) s (λ _. then_shrinks (one_shrinks _) (λ _. then_shrinks (one_shrinks _) (λ _. pure_shrinks _))))
+      (takes_either (length s) (begins (words word.Return) s) _ _ (takes_token (words word.Return) s (λ _. then_shrinks (returned_shrinks child shrinks) (λ _. then_shrinks (one_shrinks _) (λ _. pure_shrinks _))))
+      (takes_then (length s) (place child s) place_takes (placed_shrinks child shrinks)))))
+
+  statement_by_takes : (inside : Parser Token Statement) → Shrinks inside → Takes (length s) (statement_by child inside s)
+  unfolding statement_by conditional while_loop
+  statement_by_takes inside shrinks' =
+      takes_either (length s) (begins (words word.If) s) _ _
+        (takes_token (words word.If) s (λ _. then_shrinks (test_shrinks child shrinks) (λ a. then_shrinks (body_shrinks child shrinks inside shrinks')
+          (λ all. either_shrinks (begins (words word.Else)) (otherwise_shrinks child shrinks inside shrinks' a all) (pure_shrinks (If a (body_of all)))))))
+      (takes_either (length s) (begins (words word.While) s) _ _
+        (takes_token (words word.While) s (λ _. then_shrinks (test_shrinks child shrinks) (λ a. then_shrinks (body_shrinks child shrinks inside shrinks') (λ all. pure_shrinks (While a (body_of all))))))
+        simple_takes)
+
+pub statement_takes : (d : ℕ) (s : List Token) → Takes (length s) (statement d s)
+unfolding statement
+statement_takes zero s = tt
+statement_takes (suc d) s = statement_by_takes (expr d) (expr_shrinks d) s (statement d) (statement_shrinks d)
+
+statement_deep : (a : Statement) → 1 ≤ statement_depth a
+statement_deep (Assign p a) = omega arith
+statement_deep (Call into c all) = omega arith
+statement_deep (Malloc p of) = omega arith
+statement_deep (Free a) = omega arith
+statement_deep (GetChar p) = omega arith
+statement_deep (PutChar a) = omega arith
+statement_deep (If test a) = omega arith
+statement_deep (IfElse test a b) = omega arith
+statement_deep (While test a) = omega arith
+statement_deep (Goto l) = omega arith
+statement_deep (Label l) = omega arith
+statement_deep (Return a) = omega arith
+
+pub statement_tracked : (n : ℕ) (W : Type 0) (d : ℕ) → StatementTracked n W d (statement d)
+unfolding statement
+statement_tracked n W zero a is deep rest s none h = too_deep (length s) (λ w. let all = deep w in absurd (omega (arith, all, statement_deep a)))
+statement_tracked n W (suc d) a is deep rest s none h =
+    statement_by_tracked n W d (expr d) (expr_shrinks d) (λ n V. expr_tracked n V d) (expr_taking d) (statement d) (statement_shrinks d) (statement_takes d) (statement_tracked n W d) a is deep rest s none h
