@@ -9,6 +9,7 @@ pub mod Pushed
 pub mod Shrinks
 pub mod TrackedCalls
 pub mod TrackedExpressions
+pub mod TrackedLocals
 pub mod TrackedStatements
 pub mod TrackedTokens
 pub mod TrackedTypes

@@ -599,7 +599,7 @@ unfolding expr_by opened read_pointee pointee one_of begins same_mark
 star_taken d r =
     then_shrinks (then_shrinks (expr_shrinks d) (λ a. then_shrinks (one_shrinks _) (λ _. pure_shrinks _))) (λ p. then_shrinks (selectors_shrinks (expr d) (expr_shrinks d) p) (λ q. pure_shrinks (Read q))) (suc (length r)) r (omega arith)
 
-expr_taking : (d : ℕ) → Taking (expr d)
+pub expr_taking : (d : ℕ) → Taking (expr d)
 unfolding expr expr_by read_variable variable begins same_mark
 expr_taking zero = record { name = λ name r. stops_short _; open_ = λ r. stops_short _; star = λ r. stops_short _ }
 expr_taking (suc d) = record {

@@ -233,6 +233,17 @@ track_no_turn {n} {W} {y} {rest'} test part f (suc g) a s e h = turned (test s) 
   turned true i = absurd cc
   turned false i = h
 
+-- a turn that takes a token
+pub short_turn : {T A B : Type 0} {n : ℕ} (test : List T → Bool) (part : A → Parser T A) (f : A → Parser T B) (g : ℕ) (a : A) (s : List T)
+  → test s ≡ true → length s ≤ g → 0 < length s → Short n (part a s) → ((a : A) → Shrinks (part a)) → ((a : A) → Shrinks (f a)) → Short n (and_then (again test part g a s) f)
+unfolding again
+short_turn test part f zero a s e enough some h shrinks shrinks' = absurd (omega arith)
+short_turn {n} test part f (suc g) a s e enough some h shrinks shrinks' = turned (test s) e
+  where
+  turned : (z : Bool) → z ≡ true → Short n (and_then (elim z [ true ↦ and_then (part a s) (again test part g) | false ↦ Ok (a, s) ]) f)
+  turned true i = short_then (short_then h (λ b. again_shrinks test part shrinks g b)) shrinks'
+  turned false i = absurd cc
+
 -- a test that sees the next token alone
 abbrev pub Steady : {T : Type 0} → (List T → Bool) → Type 0
 Steady {T} test = (n : ℕ) (w s : List T) → Along n w s → test s ≡ test w
