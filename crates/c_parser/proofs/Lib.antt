@@ -10,6 +10,7 @@ pub mod Shrinks
 pub mod TrackedCalls
 pub mod TrackedExpressions
 pub mod TrackedLocals
+pub mod TrackedParts
 pub mod TrackedPrograms
 pub mod TrackedStatements
 pub mod TrackedTokens

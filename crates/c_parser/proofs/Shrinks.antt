@@ -15,7 +15,7 @@ use Rattle.c_parser.specs.Types.{struct_type, byte_type, void_pointer, base_type
 use Rattle.c_parser.specs.Expressions.{number, word_number, null, member, element, selected, begins_selector, selectors, pointee, variable, base_place, place, read_pointee, address, unary, binary, cast, begins_cast, opened, read_variable, expr_by, expr}
 use Rattle.c_parser.specs.Statements.{next_argument, some_arguments, listed_arguments, call, indirect, callee, calls, malloc, get_char, value, call_into, assigned, callee_of, label_of, called, labelled, placed, free, put_char, goto, returned, return, no_brace, next_statement, statements, body, test, otherwise, conditional, while_loop, simple, statement_by, statement}
 use Rattle.c_parser.specs.Programs as programs
-use Rattle.c_parser.specs.Programs.{array_length, next_member, members, next_type, types_after, types, pointer_name, typedef, next_parameter, parameters_after, parameters, begins_local, next_local, locals, block, no_functions, no_prototypes, no_globals, no_declarations, when, forward, structure, type_definition, global, prototype, function, after_parameters, after_name, after_result, after_struct_name, after_struct, next_part, parts, main, end_of, program}
+use Rattle.c_parser.specs.Programs.{array_length, next_member, members, next_type, types_after, types, typedef_of, pointer_name, typedef, next_parameter, parameters_after, parameters, begins_local, next_local, locals, block, no_functions, no_prototypes, no_globals, no_declarations, when, forward, structure, type_definition, global, prototype, function, after_parameters, after_name, after_result, after_struct_name, after_struct, next_part, parts, main, end_of, program}
 
 -- ---- types
 
@@ -252,11 +252,15 @@ pub pointer_name_shrinks : Shrinks pointer_name
 unfolding pointer_name
 pointer_name_shrinks = then_shrinks (one_shrinks _) (λ _. then_shrinks (one_shrinks _) (λ _. then_shrinks (one_shrinks _) (λ n. then_shrinks (one_shrinks _) (λ _. pure_shrinks _))))
 
+-- after `typedef`
+pub typedef_ends : (a : Unit {0}) → Shrinks {T = Token} (λ s. and_then (result_type s) (λ r s. and_then (pointer_name s) (λ n s. and_then (expect mark.Open s) (λ _ s. and_then (types s) (λ all s.
+    and_then (expect mark.Close s) (λ _ s. and_then (expect mark.Semicolon s) (λ _ s. Ok (typedef_of r n all, s))))))))
+typedef_ends a =
+    then_shrinks result_shrinks (λ r. then_shrinks pointer_name_shrinks (λ n. then_shrinks (one_shrinks _) (λ _. then_shrinks types_shrinks (λ all. then_shrinks (one_shrinks _) (λ _. then_shrinks (one_shrinks _) (λ _. pure_shrinks _))))))
+
 pub typedef_shrinks : Shrinks typedef
 unfolding typedef
-typedef_shrinks =
-    then_shrinks (one_shrinks _) (λ _. then_shrinks result_shrinks (λ r. then_shrinks pointer_name_shrinks (λ n. then_shrinks (one_shrinks _) (λ _. then_shrinks types_shrinks (λ all.
-    then_shrinks (one_shrinks _) (λ _. then_shrinks (one_shrinks _) (λ _. pure_shrinks _)))))))
+typedef_shrinks = then_shrinks (one_shrinks _) typedef_ends
 
 pub next_parameter_shrinks : (all : List CVariable) → Shrinks (next_parameter all)
 unfolding next_parameter

@@ -36,13 +36,13 @@ use Rattle.c_parser.proofs.TrackedStatements.{brace_steady}
 
 -- ---- with what a type begins
 
-record TypeBegun (w : List Token) : Type 0 where
-  some : w ≡ [] → ⊥
-  no_brace : no_brace w ≡ true
-  no_int : no_int w ≡ true
-  no_typedef : begins (words word.Typedef) w ≡ false
+pub record TypeBegun (w : List Token) : Type 0 where
+  pub some : w ≡ [] → ⊥
+  pub no_brace : no_brace w ≡ true
+  pub no_int : no_int w ≡ true
+  pub no_typedef : begins (words word.Typedef) w ≡ false
 
-type_begun : (of : ObjectType) (w : List Token) → TypeBegun (spell_type of w)
+pub type_begun : (of : ObjectType) (w : List Token) → TypeBegun (spell_type of w)
 unfolding begins same_word
 type_begun Int w = record { some = λ e. absurd cc; no_brace = refl; no_int = refl; no_typedef = refl }
 type_begun Word w = record { some = λ e. absurd cc; no_brace = refl; no_int = refl; no_typedef = refl }
@@ -52,7 +52,7 @@ type_begun (Named n) w = record { some = λ e. absurd cc; no_brace = refl; no_in
 type_begun VoidPointer w = record { some = λ e. absurd cc; no_brace = refl; no_int = refl; no_typedef = refl }
 type_begun (Pointer of) w = type_begun of (Sign mark.Star ∷ w)
 
-result_begun : (o : Option ObjectType) (w : List Token) → TypeBegun (spell_result o w)
+pub result_begun : (o : Option ObjectType) (w : List Token) → TypeBegun (spell_result o w)
 unfolding begins same_word
 result_begun None w = record { some = λ e. absurd cc; no_brace = refl; no_int = refl; no_typedef = refl }
 result_begun (Some of) w = type_begun of w
@@ -104,7 +104,7 @@ module _ (n : ℕ) (W : Type 0) where
     follows = λ x rest. tt;
   }
 
-  members_tracked : (all : List CMember) → AllByRecursion IsMember all → all ≢ [] → (rest s : List Token) → Along n (Sign mark.OpenBrace ∷ spell_all spell_member all (Sign mark.CloseBrace ∷ Sign mark.Semicolon ∷ rest)) s
+  pub members_tracked : (all : List CMember) → AllByRecursion IsMember all → all ≢ [] → (rest s : List Token) → Along n (Sign mark.OpenBrace ∷ spell_all spell_member all (Sign mark.CloseBrace ∷ Sign mark.Semicolon ∷ rest)) s
       → Tracked n W all rest (members s)
   unfolding members any_follow
   members_tracked [] is some rest s h = absurd (some refl)
@@ -147,7 +147,7 @@ module _ (n : ℕ) (W : Type 0) where
       track_then (result_tracked n W (Some of) (spell_all (spell_next spell_type) more (Sign mark.Close ∷ w)) s (after_type more w) h) types_after_shrinks (λ r h.
       track_list n W (spell_next spell_type) (spell_all (spell_next spell_type)) (begins (marks mark.Comma)) next_type NoStar type_list more (type_items more) (Sign mark.Close ∷ w) (next_facts w).1 (next_facts w).3 (of ∷ []) r h)
 
-  typedef_tracked : (t : CTypedef) (rest s : List Token) → Along n (spell_typedef t rest) s → Tracked n W t rest (typedef s)
+  pub typedef_tracked : (t : CTypedef) (rest s : List Token) → Along n (spell_typedef t rest) s → Tracked n W t rest (typedef s)
   unfolding typedef pointer_name
   typedef_tracked t rest s h =
       let ends : (r : Option ObjectType) (m : List ℕ) (all : List ObjectType) → Shrinks {T = Token} (λ s. and_then (expect mark.Close s) (λ _ s. and_then (expect mark.Semicolon s) (λ _ s. Ok (typedef_of r m all, s)))) =
@@ -186,7 +186,7 @@ module _ (n : ℕ) (W : Type 0) where
     follows = λ x rest. tt;
   }
 
-  parameters_tracked : (all : List CVariable) (rest s : List Token) → Along n (spell_parameters all rest) s → Tracked n W all rest (parameters s)
+  pub parameters_tracked : (all : List CVariable) (rest s : List Token) → Along n (spell_parameters all rest) s → Tracked n W all rest (parameters s)
   unfolding parameters any_follow
   parameters_tracked [] rest s h =
       mark_tracked mark.Open h (λ _. then_shrinks result_shrinks (λ r. then_shrinks (parameters_after_shrinks r) (λ _. then_shrinks (one_shrinks _) (λ _. pure_shrinks _)))) (λ r h.
