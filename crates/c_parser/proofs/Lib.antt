@@ -1,3 +1,4 @@
+pub mod Digits
 pub mod FairExpressions
 pub mod FairPrograms
 pub mod FairStatements
@@ -15,3 +16,4 @@ pub mod TrackedPrograms
 pub mod TrackedStatements
 pub mod TrackedTokens
 pub mod TrackedTypes
+pub mod Turns

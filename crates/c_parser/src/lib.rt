@@ -3,3 +3,5 @@
 
 pub mod fault;
 pub mod program;
+mod step;
+mod types;
