@@ -1,5 +1,5 @@
 -- Expressions that are read.
-use Rattle.std.proofs.Common.{◌≡◌, ℕ, zero, suc, ◌+◌, ◌≤◌, max, Bool, true, false, List, [], ◌∷◌, ◌++◌, length, Option, Some, None, Ok, refl, sym, ap, subst, ◌∙◌, arith}
+use Rattle.std.proofs.Common.{◌≡◌, ℕ, zero, suc, ◌+◌, ◌≤◌, List, [], ◌∷◌, Ok, refl, ap, subst, ◌∙◌, arith}
 use Rattle.c_tree.specs.Tree.{Expr, Read, Number, WordNumber, Null, Address, Unary, Binary, Cast, Place, Variable, Pointee, Member, Index}
 use Rattle.c_tree.specs.declared.operators.CUnary.{CUnary}
 use Rattle.c_tree.specs.declared.operators.CUnary.TheVariants as unary_
@@ -9,20 +9,19 @@ use Rattle.c_tree.specs.declared.operators.CCast.{CCast}
 use Rattle.c_tree.specs.declared.operators.CCast.TheVariants as cast_
 use Rattle.c_grammar.specs.declared.token.Word.TheVariants as word
 use Rattle.c_grammar.specs.declared.token.Mark.TheVariants as mark
-use Rattle.c_grammar.specs.Token.{Token, Identifier, Numeral, Quoted, Sign}
+use Rattle.c_grammar.specs.Token.{Token, Identifier, Numeral, Sign}
 use Rattle.c_grammar.specs.Spelling.{count, spell_cast, spell_expr, spell_place, unary_mark, binary_mark}
-use Rattle.c_grammar.specs.Grammar.{IsName, IsNumber, IsWordNumber, IsCast, IsExpr, IsPlace}
+use Rattle.c_grammar.specs.Grammar.{IsNumber, IsWordNumber, IsCast, IsExpr, IsPlace}
 use Rattle.c_grammar.specs.Seen.{AreTokens}
-use Rattle.c_grammar.specs.Demands.{Demands, Level, after, cast_demands, expr_demands, place_demands}
-use Rattle.c_grammar.specs.Text.{Begins, MayBegin}
+use Rattle.c_grammar.specs.Text.{MayBegin}
 use Rattle.c_grammar.proofs.Spelled.{count_more, cast_follow, expr_follow, place_follow}
-use Rattle.token_parsing.specs.Parser.{Parser, and_then, one_of, begins, rest}
-use Rattle.token_parsing.proofs.Fair.{Fair, At, reads, at_token, fair_then, fair_either, fair_repeat, fair_token, fair_spelled, fair_stop}
-use Rattle.c_parser.specs.Classes.{names, numbers, marks, words, unaries, binaries, cast_words, expect}
+use Rattle.token_parsing.specs.Parser.{Parser, and_then, begins}
+use Rattle.token_parsing.proofs.Fair.{At, reads, at_token, fair_then, fair_either, fair_repeat, fair_token, fair_spelled, fair_stop}
+use Rattle.c_parser.specs.Classes.{names, numbers, marks, words, unaries, binaries}
 use Rattle.c_parser.specs.Expressions.{largest_int, largest_word, number, word_number, null, begins_selector, member, element, selected, selectors, pointee, variable, base_place, place, read_pointee, address, unary, binary, cast, begins_cast, opened, read_variable, expr_by, expr}
 use Rattle.c_parser.specs.Depth.{expr_depth, place_depth}
 use Rattle.c_parser.proofs.FairTokens.{FairC, mark_fair, word_fair, name_fair, number_is, number_most, unary_is, binary_is, a_name, a_name_is}
-use Rattle.c_parser.proofs.Holes.{Law, Filled, begins_by, inner, in_first, in_second, in_later, in_after, ExprHas, PlaceHas, ExprHole, PlaceHole, CastHole, read_hole, may_begin}
+use Rattle.c_parser.proofs.Holes.{Law, begins_by, inner, in_first, in_second, in_later, in_after, ExprHole, PlaceHole, CastHole, read_hole, may_begin}
 use Rattle.c_parser.proofs.FairTypes.{cast_type_fair}
 
 -- ---- what is read
@@ -43,7 +42,7 @@ index_hole : {front : List Token → List Token} (level : ℕ) → Law front →
 index_hole level law p is hole e ise =
     let f = hole (Index p e) (is, ise) in
     inner law (λ u. spell_place p (Sign mark.OpenBracket ∷ u)) (count spell_place p + 1) (omega (arith, count_more spell_place place_follow p (Sign mark.OpenBracket ∷ []))) f (Sign mark.CloseBracket ∷ f.more) refl
-      (λ n l h k. in_second _ (in_after (count spell_place p + 1) (h k)))
+    (λ n l h k. in_second _ (in_after (count spell_place p + 1) (h k)))
 
 pointee_hole : {front : List Token → List Token} (level : ℕ) → Law front → PlaceHole level front → ExprHole level (λ u. front (Sign mark.Open ∷ Sign mark.Star ∷ u))
 pointee_hole level law hole e is =
@@ -87,7 +86,7 @@ module _ (all : List Token) (formed : AreTokens all) (d : ℕ) (child : Parser T
   unfolding place base_place
   place_fair level front s left hole at =
       fair_then (fair_either (begins names s) (λ _. variable_fair level front s hole at)
-        (λ _. mark_fair mark.Open s at (let f = hole (Variable a_name) a_name_is in begins_by at f (Identifier a_name ∷ f.more) refl) (λ _ r at1. pointee_fair level front r left at.law hole at1)))
+      (λ _. mark_fair mark.Open s at (let f = hole (Variable a_name) a_name_is in begins_by at f (Identifier a_name ∷ f.more) refl) (λ _ r at1. pointee_fair level front r left at.law hole at1)))
       (λ p r h. selectors_fair level front p r left at.law hole h)
 
   -- ---- after an opening parenthesis
@@ -126,7 +125,7 @@ module _ (all : List Token) (formed : AreTokens all) (d : ℕ) (child : Parser T
   unfolding unary
   unary_fair level front s left law hole at =
       fair_spelled unaries (λ op. Sign (unary_mark op)) unary_is s at
-        (let f = hole (Unary unary_.Minus Null) tt in begins_by at f (Sign mark.Minus ∷ spell_expr Null (Sign mark.Close ∷ f.more)) refl) (λ op r _ at1.
+      (let f = hole (Unary unary_.Minus Null) tt in begins_by at f (Sign mark.Minus ∷ spell_expr Null (Sign mark.Close ∷ f.more)) refl) (λ op r _ at1.
       fair_then (good (suc level) (λ u. front (Sign mark.Open ∷ Sign (unary_mark op) ∷ u)) r (omega arith) at1 (unary_hole level op law hole)) (λ a r (at2, is, deep).
       mark_fair mark.Close r at2 (let f = hole (Unary op a) is in begins_by at2 f (Sign mark.Close ∷ f.more) refl) (λ _ r at3.
       reads (Unary op a) r (at3, is, omega arith))))
@@ -141,14 +140,14 @@ module _ (all : List Token) (formed : AreTokens all) (d : ℕ) (child : Parser T
   right_hole level op a law isa hole e is =
       let f = hole (Binary op a e) (isa, is) in
       inner law (λ u. Sign mark.Open ∷ spell_expr a (Sign (binary_mark op) ∷ u)) (count spell_expr a + 2) (omega (arith, count_more spell_expr expr_follow a (Sign (binary_mark op) ∷ []))) f (Sign mark.Close ∷ f.more) refl
-        (λ n l h k. in_later (in_second _ (in_after (count spell_expr a + 2) (h k))))
+      (λ n l h k. in_later (in_second _ (in_after (count spell_expr a + 2) (h k))))
 
   binary_fair : Opened (binary child)
   unfolding binary
   binary_fair level front s left law hole at =
       fair_then (good (suc level) (λ u. front (Sign mark.Open ∷ u)) s (omega arith) at (left_hole level law hole)) (λ a r (at1, isa, deep).
       fair_spelled binaries (λ op. Sign (binary_mark op)) binary_is r at1
-        (let f = hole (Binary binary_.Add a Null) (isa, tt) in begins_by at1 f (Sign mark.Plus ∷ spell_expr Null (Sign mark.Close ∷ f.more)) refl) (λ op r _ at2.
+      (let f = hole (Binary binary_.Add a Null) (isa, tt) in begins_by at1 f (Sign mark.Plus ∷ spell_expr Null (Sign mark.Close ∷ f.more)) refl) (λ op r _ at2.
       fair_then (good (suc level) (λ u. front (Sign mark.Open ∷ spell_expr a (Sign (binary_mark op) ∷ u))) r (omega arith) at2 (right_hole level op a law isa hole)) (λ b r (at3, isb, deep').
       mark_fair mark.Close r at3 (let f = hole (Binary op a b) (isa, isb) in begins_by at3 f (Sign mark.Close ∷ f.more) refl) (λ _ r at4.
       reads (Binary op a b) r (at4, (isa, isb), grind arith)))))
@@ -163,7 +162,7 @@ module _ (all : List Token) (formed : AreTokens all) (d : ℕ) (child : Parser T
   cast_hole level to law ist hole e is =
       let f = hole (Cast to e) (ist, is) in
       inner law (λ u. Sign mark.Open ∷ Sign mark.Open ∷ spell_cast to (Sign mark.Close ∷ u)) (count spell_cast to + 3) (omega (arith, count_more spell_cast cast_follow to (Sign mark.Close ∷ []))) f (Sign mark.Close ∷ f.more) refl
-        (λ n l h k. in_later (in_second _ (in_after (count spell_cast to + 3) (h k))))
+      (λ n l h k. in_later (in_second _ (in_after (count spell_cast to + 3) (h k))))
 
   cast_fair : Opened (cast child)
   unfolding cast
@@ -222,7 +221,7 @@ module _ (all : List Token) (formed : AreTokens all) (d : ℕ) (child : Parser T
   expr_by_fair level front s left at hole =
       fair_either (begins names s) (λ _. fair_then (variable_fair (suc level) front s (read_hole level hole) at) (λ p r h. read_fair level front p r left at.law hole h))
       (λ _. fair_either (begins (marks mark.Open) s)
-        (λ _. mark_fair mark.Open s at (let f = hole Null tt in begins_by at f (spell_expr Null f.more) refl) (λ _ r at1. opened_fair level front r left at.law hole at1))
+      (λ _. mark_fair mark.Open s at (let f = hole Null tt in begins_by at f (spell_expr Null f.more) refl) (λ _ r at1. opened_fair level front r left at.law hole at1))
       (λ _. fair_either (begins (words word.Int64) s) (λ _. number_fair level front s at hole)
       (λ _. fair_either (begins (words word.Uint64) s) (λ _. word_number_fair level front s at hole)
       (λ _. null_fair level front s at hole))))

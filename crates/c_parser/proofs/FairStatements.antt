@@ -1,31 +1,31 @@
 -- Statements that are read.
-use Rattle.std.proofs.Common.{◌≡◌, ℕ, zero, suc, ◌+◌, ◌≤◌, max, Bool, true, false, List, [], ◌∷◌, ◌++◌, length, Option, Some, None, Ok, refl, sym, ap, subst, ◌∙◌, arith}
+use Rattle.std.proofs.Common.{◌≡◌, ℕ, zero, suc, ◌+◌, ◌≤◌, List, [], ◌∷◌, ◌++◌, length, Option, Some, None, refl, sym, ap, subst, ◌∙◌, arith}
 use Rattle.std.specs.List.{AllByRecursion}
 use Rattle.std.specs.Option.{IfSome}
-use Rattle.c_tree.specs.Tree.{ObjectType, Int, Expr, Null, Place, Variable, Pointee, Member, Index, Statement, Assign, Call, Malloc, Free, GetChar, PutChar, If, IfElse, While, Goto, Label, Return, Body, Empty, Then, body_of}
+use Rattle.c_tree.specs.Tree.{Int, Expr, Null, Place, Variable, Pointee, Member, Index, Statement, Assign, Call, Malloc, Free, GetChar, PutChar, If, IfElse, While, Goto, Label, Return, Body, Empty, body_of}
 use Rattle.c_tree.specs.declared.statement.CCallee.{CCallee}
 use Rattle.c_tree.specs.declared.statement.CCallee.TheVariants.{Direct, Indirect}
 use Rattle.c_grammar.specs.declared.token.Word.{Word as QuotedWord}
 use Rattle.c_grammar.specs.declared.token.Word.TheVariants as word
 use Rattle.c_grammar.specs.declared.token.Mark.TheVariants as mark
-use Rattle.c_grammar.specs.Token.{Token, Identifier, Numeral, Quoted, Sign}
+use Rattle.c_grammar.specs.Token.{Token, Identifier, Quoted, Sign}
 use Rattle.c_grammar.specs.Spelling.{count, spell_all, spell_next, spell_listed, spell_expr, spell_place, spell_into, spell_callee, spell_value, spell_statement, spell_body, spell_type}
-use Rattle.c_grammar.specs.Grammar.{IsName, IsExpr, IsPlace, IsCallee, IsStatement, IsBody, IsObjectType}
+use Rattle.c_grammar.specs.Grammar.{IsExpr, IsPlace, IsCallee, IsStatement, IsBody}
 use Rattle.c_grammar.specs.Seen.{AreTokens}
 use Rattle.c_grammar.specs.Types.{Known}
-use Rattle.c_grammar.specs.Demands.{Demands, Names, Level, after, same, expr_demands, callee_demands, statement_demands, body_demands, all_demands, listed_demands, own_labels, labels_of, program_demands}
+use Rattle.c_grammar.specs.Demands.{Names, after, same, expr_demands, callee_demands, statement_demands, body_demands, listed_demands, own_labels, labels_of, program_demands}
 use Rattle.c_grammar.specs.Text.{Begins, MayBegin}
-use Rattle.c_grammar.proofs.Spelled.{count_more, next_follow, listed_follow, all_follow, expr_follow, place_follow, into_follow, callee_follow, body_follow}
-use Rattle.token_parsing.specs.Parser.{Parser, and_then, one_of, begins, rest}
-use Rattle.token_parsing.proofs.Fair.{Fair, At, reads, at_token, at_same, fair_then, fair_either, fair_repeat, fair_so, fair_token, fair_spelled, fair_refuse, fair_stop}
-use Rattle.c_parser.specs.Classes.{names, marks, words, expect}
-use Rattle.c_parser.specs.Expressions.{place, expr}
-use Rattle.c_parser.specs.Statements.{next_argument, some_arguments, listed_arguments, call, indirect, callee, calls, malloc, get_char, value, call_into, assigned, callee_of, label_of, called, labelled, placed, free, put_char, goto, returned, return, no_brace, next_statement, statements, body, test, otherwise, conditional, while_loop, simple, statement_by, statement}
+use Rattle.c_grammar.proofs.Spelled.{count_more, next_follow, all_follow, expr_follow, place_follow, into_follow, callee_follow, body_follow}
+use Rattle.token_parsing.specs.Parser.{Parser, begins}
+use Rattle.token_parsing.proofs.Fair.{At, reads, at_same, fair_then, fair_either, fair_repeat, fair_so, fair_refuse, fair_stop}
+use Rattle.c_parser.specs.Classes.{names, marks, words}
+use Rattle.c_parser.specs.Expressions.{expr}
+use Rattle.c_parser.specs.Statements.{next_argument, some_arguments, listed_arguments, call, indirect, callee, calls, malloc_opening, malloc, get_char, value, call_into, assigned, callee_of, label_of, called, labelled, placed, free, put_char, goto, returned, return_with, no_brace, next_statement, statements, body, test, otherwise, conditional, while_loop, simple, statement_by, statement}
 use Rattle.c_parser.specs.Depth.{expr_depth, place_depth, into_depth, callee_depth, arguments_depth, value_depth, statement_depth, body_depth}
 use Rattle.c_parser.proofs.FairTokens.{FairC, mark_fair, word_fair, name_fair, a_name, a_name_is}
 use Rattle.c_parser.proofs.FairTypes.{type_fair}
-use Rattle.c_parser.proofs.FairExpressions.{ReadExpr, ReadPlace, ExprFair, place_fair, expr_fair}
-use Rattle.c_parser.proofs.Holes.{Law, Among, Filled, begins_by, inner, in_first, in_second, in_later, in_after, level_here, ExprHas, PlaceHas, ExprHole, PlaceHole, TypeHole}
+use Rattle.c_parser.proofs.FairExpressions.{ReadPlace, ExprFair, place_fair, expr_fair}
+use Rattle.c_parser.proofs.Holes.{Law, Among, Filled, begins_by, inner, in_first, in_second, in_later, in_after, level_here, ExprHole, PlaceHole, TypeHole}
 use Rattle.c_parser.proofs.Pushed.{all_pushed, each_pushed, body_pushed, is_body_pushed, body_depth_pushed, arguments_depth_pushed, all_last, body_last}
 
 -- ---- holes
@@ -77,11 +77,11 @@ next_hole level law a more is each hole e ise =
     let long = count_more spell_expr expr_follow a (spell_all (spell_next spell_expr) more (Sign mark.Comma ∷ [])) in
     let long' = count_more (spell_all (spell_next spell_expr)) (all_follow (spell_next spell_expr) (next_follow spell_expr expr_follow)) more (Sign mark.Comma ∷ []) in
     inner law (λ u. spell_listed spell_expr (a ∷ more) (Sign mark.Comma ∷ u)) (count spell_expr a + (count (spell_all (spell_next spell_expr)) more + 1)) (omega (arith, long, long')) f f.more
-      (ap (spell_expr a) (all_pushed (spell_next spell_expr) more e f.more))
-      (λ n l h k. subst (λ m. Among (listed_demands spell_expr same (expr_demands k) level (a ∷ (more ++ e ∷ []))) m l) (omega arith)
-        (in_second _ (in_after (count spell_expr a)
-          (all_last (spell_next spell_expr) (next_follow spell_expr expr_follow) same (λ level a. after 1 (expr_demands k level a)) (λ m. m ≡ level) (λ m a i. i) level refl more e (1 + n) l
-            (λ m i. in_after 1 (subst (λ m. Among (expr_demands k m e) n l) (sym i) (h k)))))))
+    (ap (spell_expr a) (all_pushed (spell_next spell_expr) more e f.more))
+    (λ n l h k. subst (λ m. Among (listed_demands spell_expr same (expr_demands k) level (a ∷ (more ++ e ∷ []))) m l) (omega arith)
+    (in_second _ (in_after (count spell_expr a)
+    (all_last (spell_next spell_expr) (next_follow spell_expr expr_follow) same (λ level a. after 1 (expr_demands k level a)) (λ m. m ≡ level) (λ m a i. i) level refl more e (1 + n) l
+    (λ m i. in_after 1 (subst (λ m. Among (expr_demands k m e) n l) (sym i) (h k)))))))
 
 module _ (all : List Token) (formed : AreTokens all) (d : ℕ) (child : Parser Token Expr) (good : ExprFair all d child) where
   -- what is read of arguments, of which there is one
@@ -94,9 +94,15 @@ module _ (all : List Token) (formed : AreTokens all) (d : ℕ) (child : Parser T
   next_argument_fair level front items s left law hole (a, more, e, at, is, each, deep) =
       mark_fair mark.Comma s at (let f = hole (a ∷ more) (is, each) in begins_by at f f.more refl) (λ _ r at1.
       fair_then (good level (λ u. front (spell_listed spell_expr (a ∷ more) (Sign mark.Comma ∷ u))) r left at1 (next_hole level law a more is each hole)) (λ x r (at2, isx, deep').
-      reads (items ++ x ∷ []) r (a, more ++ x ∷ [], ap (λ z. z ++ x ∷ []) e,
+      reads (items ++ x ∷ []) r (
+        a,
+        more ++ x ∷ [],
+        ap (λ z. z ++ x ∷ []) e,
         at_same at2 (λ u. front (spell_listed spell_expr (a ∷ (more ++ x ∷ [])) u)) (λ u. ap (λ z. front (spell_expr a z)) (sym (all_pushed (spell_next spell_expr) more x u))),
-        is, each_pushed IsExpr more x each isx, arguments_depth_pushed (a ∷ more) x d deep deep')))
+        is,
+        each_pushed IsExpr more x each isx,
+        arguments_depth_pushed (a ∷ more) x d deep deep',
+      )))
 
   first_hole : {front : List Token → List Token} (level : ℕ) → ArgumentsHole level front → ExprHole level front
   first_hole level hole e is = let f = hole (e ∷ []) (is, tt) in record { c = f.c; more = f.more; of_grammar = f.of_grammar; is_spelled = f.is_spelled; kept = λ n l h. f.kept n l (λ k. in_first _ (h k)) }
@@ -106,9 +112,9 @@ module _ (all : List Token) (formed : AreTokens all) (d : ℕ) (child : Parser T
   listed_arguments_fair level front s left at hole =
       fair_either (begins (marks mark.Close) s) (λ _. reads [] s (at, tt, grind arith))
       (λ _. fair_then (good level front s left at (first_hole level hole)) (λ a r (at1, is, deep).
-        fair_so (fair_repeat (begins (marks mark.Comma)) (next_argument child) (λ items s h e. next_argument_fair level front items s left at.law hole h) (a ∷ []) r
-          (a, [], refl, at1, is, tt, grind arith))
-        (λ items r (a, more, e, at2, is, each, deep). subst (λ z. ReadArguments all front d z r) (sym e) (at2, (is, each), deep))))
+      fair_so (fair_repeat (begins (marks mark.Comma)) (next_argument child) (λ items s h e. next_argument_fair level front items s left at.law hole h) (a ∷ []) r
+      (a, [], refl, at1, is, tt, grind arith))
+      (λ items r (a, more, e, at2, is, each, deep). subst (λ z. ReadArguments all front d z r) (sym e) (at2, (is, each), deep))))
 
   -- ---- calls
 
@@ -117,8 +123,8 @@ module _ (all : List Token) (formed : AreTokens all) (d : ℕ) (child : Parser T
   arguments_hole level into c law isi isc hole items each =
       let f = hole (Call into c items) (isi, isc, each) in
       inner law (λ u. spell_into into (spell_callee c (Sign mark.Open ∷ u))) (count spell_into into + count spell_callee c + 1)
-        (omega (arith, count_more spell_into into_follow into (spell_callee c (Sign mark.Open ∷ [])), count_more spell_callee callee_follow c (Sign mark.Open ∷ []))) f (Sign mark.Close ∷ Sign mark.Semicolon ∷ f.more) refl
-        (λ n l h k reached above. in_later (in_second _ (in_after (count spell_into into + count spell_callee c + 1) (h k))))
+      (omega (arith, count_more spell_into into_follow into (spell_callee c (Sign mark.Open ∷ [])), count_more spell_callee callee_follow c (Sign mark.Open ∷ []))) f (Sign mark.Close ∷ Sign mark.Semicolon ∷ f.more) refl
+      (λ n l h k reached above. in_later (in_second _ (in_after (count spell_into into + count spell_callee c + 1) (h k))))
 
   call_fair : (level : ℕ) (front : List Token → List Token) (into : Option Place) (c : CCallee) (s : List Token) → level + suc d ≡ 2401 → Law front → StatementHole level front
       → At all (λ u. front (spell_into into (spell_callee c u))) s → IfSome into IsPlace → IsCallee c → into_depth into ≤ d → callee_depth c ≤ d → FairC all (ReadStatement all front (suc d)) (call child into c s)
@@ -140,10 +146,10 @@ module _ (all : List Token) (formed : AreTokens all) (d : ℕ) (child : Parser T
       let f = hole (Direct a_name) a_name_is in let start = begins_by at f (Identifier a_name ∷ f.more) refl in
       fair_either (begins names s) (λ _. name_fair formed s at start (λ n r is at1. reads (Direct n) r (at1, is, grind arith)))
       (λ _. mark_fair mark.Open s at start (λ _ r at1.
-        mark_fair mark.Star r at1 (let g = hole (Indirect Null) tt in begins_by at1 g (Sign mark.Star ∷ spell_expr Null (Sign mark.Close ∷ g.more)) refl) (λ _ r at2.
-        fair_then (good level (λ u. front (Sign mark.Open ∷ Sign mark.Star ∷ u)) r left at2 (indirect_hole level at.law hole)) (λ a r (at3, is, deep).
-        mark_fair mark.Close r at3 (let g = hole (Indirect a) is in begins_by at3 g (Sign mark.Close ∷ g.more) refl) (λ _ r at4.
-        reads (Indirect a) r (at4, is, deep))))))
+      mark_fair mark.Star r at1 (let g = hole (Indirect Null) tt in begins_by at1 g (Sign mark.Star ∷ spell_expr Null (Sign mark.Close ∷ g.more)) refl) (λ _ r at2.
+      fair_then (good level (λ u. front (Sign mark.Open ∷ Sign mark.Star ∷ u)) r left at2 (indirect_hole level at.law hole)) (λ a r (at3, is, deep).
+      mark_fair mark.Close r at3 (let g = hole (Indirect a) is in begins_by at3 g (Sign mark.Close ∷ g.more) refl) (λ _ r at4.
+      reads (Indirect a) r (at4, is, deep))))))
 
   -- ---- assignments
 
@@ -158,20 +164,25 @@ module _ (all : List Token) (formed : AreTokens all) (d : ℕ) (child : Parser T
       let f = hole (Malloc p of) (is, ist) in
       inner law (λ u. spell_place p (Sign mark.Assign ∷ Quoted word.Malloc ∷ Sign mark.Open ∷ Quoted word.SizeOf ∷ Sign mark.Open ∷ u)) _ refl f (Sign mark.Close ∷ Sign mark.Close ∷ Sign mark.Semicolon ∷ f.more) refl (λ n l h. absurd h)
 
+  -- up to the type
+  abbrev sized : Place → List Token → List Token
+  sized p u = spell_place p (Sign mark.Assign ∷ Quoted word.Malloc ∷ Sign mark.Open ∷ Quoted word.SizeOf ∷ Sign mark.Open ∷ u)
+
   malloc_fair : (p : Place) → After (malloc p) p
-  unfolding malloc
+  unfolding malloc malloc_opening
   malloc_fair p level front s left law hole is deep at =
       let f = hole (GetChar p) is in let g = hole (Malloc p Int) (is, tt) in
-      word_fair word.Malloc s at (begins_by at f (Quoted word.GetChar ∷ Sign mark.Open ∷ Sign mark.Close ∷ Sign mark.Semicolon ∷ f.more) refl) (λ _ r at1.
+      fair_then {P = λ _ r. At all (λ u. front (sized p u)) r}
+      (word_fair word.Malloc s at (begins_by at f (Quoted word.GetChar ∷ Sign mark.Open ∷ Sign mark.Close ∷ Sign mark.Semicolon ∷ f.more) refl) (λ _ r at1.
       mark_fair mark.Open r at1 (begins_by at1 g (Sign mark.Open ∷ Quoted word.SizeOf ∷ Sign mark.Open ∷ spell_type Int (Sign mark.Close ∷ Sign mark.Close ∷ Sign mark.Semicolon ∷ g.more)) refl) (λ _ r at2.
       word_fair word.SizeOf r at2 (begins_by at2 g (Quoted word.SizeOf ∷ Sign mark.Open ∷ spell_type Int (Sign mark.Close ∷ Sign mark.Close ∷ Sign mark.Semicolon ∷ g.more)) refl) (λ _ r at3.
-      mark_fair mark.Open r at3 (begins_by at3 g (Sign mark.Open ∷ spell_type Int (Sign mark.Close ∷ Sign mark.Close ∷ Sign mark.Semicolon ∷ g.more)) refl) (λ _ r at4.
+      mark_fair mark.Open r at3 (begins_by at3 g (Sign mark.Open ∷ spell_type Int (Sign mark.Close ∷ Sign mark.Close ∷ Sign mark.Semicolon ∷ g.more)) refl) (λ _ r at4. reads tt r at4))))) (λ _ r at4.
       fair_then (type_fair all formed _ r at4 (size_hole level p law is hole)) (λ of r (at5, ist).
       let h = hole (Malloc p of) (is, ist) in
       mark_fair mark.Close r at5 (begins_by at5 h (Sign mark.Close ∷ Sign mark.Close ∷ Sign mark.Semicolon ∷ h.more) refl) (λ _ r at6.
       mark_fair mark.Close r at6 (begins_by at6 h (Sign mark.Close ∷ Sign mark.Semicolon ∷ h.more) refl) (λ _ r at7.
       mark_fair mark.Semicolon r at7 (begins_by at7 h (Sign mark.Semicolon ∷ h.more) refl) (λ _ r at8.
-      reads (Malloc p of) r (at8, (is, ist), omega arith)))))))))
+      reads (Malloc p of) r (at8, (is, ist), omega arith))))))
 
   get_char_fair : (p : Place) → After (get_char p) p
   unfolding get_char
@@ -187,7 +198,7 @@ module _ (all : List Token) (formed : AreTokens all) (d : ℕ) (child : Parser T
   value_hole level p law is hole e ise =
       let f = hole (Assign p e) (is, ise) in
       inner law (λ u. spell_place p (Sign mark.Assign ∷ u)) (count spell_place p + 1) (omega (arith, count_more spell_place place_follow p (Sign mark.Assign ∷ []))) f (Sign mark.Semicolon ∷ f.more) refl
-        (λ n l h k reached above. in_later (in_second _ (in_after (count spell_place p + 1) (h k))))
+      (λ n l h k reached above. in_later (in_second _ (in_after (count spell_place p + 1) (h k))))
 
   value_fair : (p : Place) → After (value child p) p
   unfolding value
@@ -200,7 +211,7 @@ module _ (all : List Token) (formed : AreTokens all) (d : ℕ) (child : Parser T
   callee_hole level p law is hole c isc =
       let f = hole (Call (Some p) c []) (is, isc, tt) in
       inner law (λ u. spell_place p (Sign mark.Assign ∷ u)) (count spell_into (Some p)) refl f (Sign mark.Open ∷ Sign mark.Close ∷ Sign mark.Semicolon ∷ f.more) refl
-        (λ n l h k reached above. in_later (in_first _ (in_second _ (in_after (count spell_into (Some p)) (h k)))))
+      (λ n l h k reached above. in_later (in_first _ (in_second _ (in_after (count spell_into (Some p)) (h k)))))
 
   call_into_fair : (p : Place) → After (call_into child p) p
   unfolding call_into
@@ -296,14 +307,14 @@ module _ (all : List Token) (formed : AreTokens all) (d : ℕ) (child : Parser T
   return_hole level law hole e is =
       let f = hole (Return (Some e)) is in inner law (λ u. Quoted word.Return ∷ u) 1 refl f (Sign mark.Semicolon ∷ f.more) refl (λ n l h k reached above. in_later (in_after 1 (h k)))
 
-  return_fair : Whole (return child)
-  unfolding return returned
+  return_fair : Whole (return_with child)
+  unfolding return_with returned
   return_fair level front s left at hole =
       word_fair word.Return s at (start level at hole) (λ _ r at1.
       fair_then {P = λ a r. At all (λ u. front (Quoted word.Return ∷ spell_value a u)) r × IfSome a IsExpr × (value_depth a ≤ d)}
-        (fair_either (begins (marks mark.Semicolon) r) (λ _. reads None r (at1, tt, omega arith))
-          (λ _. fair_then (good (suc level) (λ u. front (Quoted word.Return ∷ u)) r (omega arith) at1 (return_hole level at.law hole)) (λ a r h. reads (Some a) r h)))
-        (λ a r (at2, is, deep). mark_fair mark.Semicolon r at2 (let f = hole (Return a) is in begins_by at2 f (Sign mark.Semicolon ∷ f.more) refl) (λ _ r at3. reads (Return a) r (at3, is, omega arith))))
+      (fair_either (begins (marks mark.Semicolon) r) (λ _. reads None r (at1, tt, omega arith))
+      (λ _. fair_then (good (suc level) (λ u. front (Quoted word.Return ∷ u)) r (omega arith) at1 (return_hole level at.law hole)) (λ a r h. reads (Some a) r h)))
+      (λ a r (at2, is, deep). mark_fair mark.Semicolon r at2 (let f = hole (Return a) is in begins_by at2 f (Sign mark.Semicolon ∷ f.more) refl) (λ _ r at3. reads (Return a) r (at3, is, omega arith))))
 
   placed_hole : {front : List Token → List Token} (level : ℕ) → StatementHole level front → PlaceHole (suc level) front
   placed_hole level hole p is =
@@ -327,7 +338,7 @@ module _ (all : List Token) (formed : AreTokens all) (d : ℕ) (child : Parser T
     statement_hole level law items is hole e ise =
         let f = hole (body_of (items ++ e ∷ [])) (is_body_pushed items e is ise) in
         inner law (spell_body (body_of items)) (count spell_body (body_of items)) refl f f.more (body_pushed items e f.more)
-          (λ n l h k reached above. body_last k reached above level items e n l (λ above. h k reached above))
+        (λ n l h k reached above. body_last k reached above level items e n l (λ above. h k reached above))
 
     next_statement_fair : (level : ℕ) (front : List Token → List Token) (items : List Statement) (s : List Token) → level + d ≡ 2401 → Law front → BodyHole level front → ReadBody all front d items s
         → FairC all (ReadBody all front d) (next_statement inside items s)
@@ -369,7 +380,7 @@ module _ (all : List Token) (formed : AreTokens all) (d : ℕ) (child : Parser T
     if_body_hole level a law isa hole b is =
         let f = hole (If a b) (isa, is) in
         inner law (λ u. headed word.If a (Sign mark.OpenBrace ∷ u)) (count spell_expr a + 4) (omega (arith, count_more spell_expr expr_follow a (Sign mark.Close ∷ Sign mark.OpenBrace ∷ []))) f (Sign mark.CloseBrace ∷ f.more) refl
-          (λ n l h k reached above. in_later (in_second _ (in_after (count spell_expr a + 4) (h k (own_labels b ++ reached) above))))
+        (λ n l h k reached above. in_later (in_second _ (in_after (count spell_expr a + 4) (h k (own_labels b ++ reached) above))))
 
     -- up to the second body
     abbrev otherwise_headed : Expr → Body → List Token → List Token
@@ -381,8 +392,8 @@ module _ (all : List Token) (formed : AreTokens all) (d : ℕ) (child : Parser T
         let f = hole (IfElse a b more) (isa, isb, is) in
         let after_body = Sign mark.CloseBrace ∷ Quoted word.Else ∷ Sign mark.OpenBrace ∷ [] in
         inner law (λ u. otherwise_headed a b (Sign mark.OpenBrace ∷ u)) (count spell_expr a + count spell_body b + 7)
-          (omega (arith, count_more spell_expr expr_follow a (Sign mark.Close ∷ Sign mark.OpenBrace ∷ spell_body b after_body), count_more spell_body body_follow b after_body)) f (Sign mark.CloseBrace ∷ f.more) refl
-          (λ n l h k reached above. in_later (in_second _ (in_after (count spell_expr a + count spell_body b + 7) (h k (own_labels more ++ reached) (above ++ labels_of b)))))
+        (omega (arith, count_more spell_expr expr_follow a (Sign mark.Close ∷ Sign mark.OpenBrace ∷ spell_body b after_body), count_more spell_body body_follow b after_body)) f (Sign mark.CloseBrace ∷ f.more) refl
+        (λ n l h k reached above. in_later (in_second _ (in_after (count spell_expr a + count spell_body b + 7) (h k (own_labels more ++ reached) (above ++ labels_of b)))))
 
     otherwise_fair : (level : ℕ) (front : List Token → List Token) (a : Expr) (items : List Statement) (s : List Token) → level + suc d ≡ 2401 → Law front → StatementHole level front
         → At all (λ u. front (spell_statement (If a (body_of items)) u)) s → IsExpr a → IsBody (body_of items) → expr_depth a ≤ d → body_depth (body_of items) ≤ d
@@ -400,11 +411,11 @@ module _ (all : List Token) (formed : AreTokens all) (d : ℕ) (child : Parser T
         let f = hole (If Null Empty) (tt, tt) in
         word_fair word.If s at (start level at hole) (λ _ r at1.
         fair_then (test_fair (suc level) (λ u. front (Quoted word.If ∷ u)) r (omega arith) at1
-          (begins_by at1 f (Sign mark.Open ∷ spell_expr Null (Sign mark.Close ∷ Sign mark.OpenBrace ∷ Sign mark.CloseBrace ∷ f.more)) refl) (if_test_hole level at.law hole)) (λ a r (at2, isa, deep).
+        (begins_by at1 f (Sign mark.Open ∷ spell_expr Null (Sign mark.Close ∷ Sign mark.OpenBrace ∷ Sign mark.CloseBrace ∷ f.more)) refl) (if_test_hole level at.law hole)) (λ a r (at2, isa, deep).
         let g = hole (If a Empty) (isa, tt) in
         fair_then (body_fair (suc level) (λ u. front (headed word.If a u)) r (omega arith) at2 (begins_by at2 g (Sign mark.OpenBrace ∷ Sign mark.CloseBrace ∷ g.more) refl) (if_body_hole level a at.law isa hole)) (λ items r (at3, isb, deep').
         fair_either (begins (words word.Else) r) (λ _. otherwise_fair level front a items r left at.law hole at3 isa isb deep deep')
-          (λ _. reads (If a (body_of items)) r (at3, (isa, isb), grind arith)))))
+        (λ _. reads (If a (body_of items)) r (at3, (isa, isb), grind arith)))))
 
     while_test_hole : {front : List Token → List Token} (level : ℕ) → Law front → StatementHole level front → ExprHole (suc level) (λ u. front (Quoted word.While ∷ Sign mark.Open ∷ u))
     while_test_hole level law hole e is =
@@ -415,7 +426,7 @@ module _ (all : List Token) (formed : AreTokens all) (d : ℕ) (child : Parser T
     while_body_hole level a law isa hole b is =
         let f = hole (While a b) (isa, is) in
         inner law (λ u. headed word.While a (Sign mark.OpenBrace ∷ u)) (count spell_expr a + 4) (omega (arith, count_more spell_expr expr_follow a (Sign mark.Close ∷ Sign mark.OpenBrace ∷ []))) f (Sign mark.CloseBrace ∷ f.more) refl
-          (λ n l h k reached above. in_later (in_second _ (in_after (count spell_expr a + 4) (h k (own_labels b ++ reached) above))))
+        (λ n l h k reached above. in_later (in_second _ (in_after (count spell_expr a + 4) (h k (own_labels b ++ reached) above))))
 
     while_fair : Whole (while_loop child inside)
     unfolding while_loop
@@ -423,7 +434,7 @@ module _ (all : List Token) (formed : AreTokens all) (d : ℕ) (child : Parser T
         let f = hole (While Null Empty) (tt, tt) in
         word_fair word.While s at (start level at hole) (λ _ r at1.
         fair_then (test_fair (suc level) (λ u. front (Quoted word.While ∷ u)) r (omega arith) at1
-          (begins_by at1 f (Sign mark.Open ∷ spell_expr Null (Sign mark.Close ∷ Sign mark.OpenBrace ∷ Sign mark.CloseBrace ∷ f.more)) refl) (while_test_hole level at.law hole)) (λ a r (at2, isa, deep).
+        (begins_by at1 f (Sign mark.Open ∷ spell_expr Null (Sign mark.Close ∷ Sign mark.OpenBrace ∷ Sign mark.CloseBrace ∷ f.more)) refl) (while_test_hole level at.law hole)) (λ a r (at2, isa, deep).
         let g = hole (While a Empty) (isa, tt) in
         fair_then (body_fair (suc level) (λ u. front (headed word.While a u)) r (omega arith) at2 (begins_by at2 g (Sign mark.OpenBrace ∷ Sign mark.CloseBrace ∷ g.more) refl) (while_body_hole level a at.law isa hole)) (λ items r (at3, isb, deep').
         reads (While a (body_of items)) r (at3, (isa, isb), grind arith))))

@@ -1,7 +1,6 @@
 -- Tokens that are read: what they are, and that what is before them begins a text.
-use Rattle.std.proofs.Common.{◌≡◌, ℕ, ◌≤◌, Bool, true, false, List, [], ◌∷◌, ◌++◌, length, Option, Some, None, refl, sym, ap, subst, ◌∙◌, rules}
+use Rattle.std.proofs.Common.{◌≡◌, ℕ, ◌≤◌, Bool, true, false, List, [], ◌∷◌, ◌++◌, Some, refl, ap, subst, ◌∙◌, rules}
 use Rattle.std.specs.Prelude.{nat_le}
-use Rattle.std.specs.List.{AllByRecursion}
 use Rattle.std.proofs.lemmas.Bool.{leb-true}
 use denote.Enum.Bare.{same_true}
 use Rattle.c_grammar.specs.contracts.token.Word as the_words
@@ -18,7 +17,7 @@ use Rattle.c_grammar.specs.Spelling.{unary_mark, binary_mark}
 use Rattle.c_grammar.specs.Grammar.{IsName}
 use Rattle.c_grammar.specs.Seen.{IsToken, AreTokens}
 use Rattle.c_grammar.specs.Text.{Begins, MayBegin}
-use Rattle.token_parsing.specs.Parser.{Parser, Outcome, Class, and_then, one_of}
+use Rattle.token_parsing.specs.Parser.{Parser, Outcome, and_then, one_of}
 use Rattle.token_parsing.proofs.Fair.{Fair, At, fair_spelled}
 use Rattle.c_parser.specs.Classes.{same_word, same_mark, if_true, names, numbers, words, marks, expect, expect_word, unary_of, binary_of, unaries, binaries}
 
@@ -109,11 +108,11 @@ abbrev pub FairC : {A : Type 0} → List Token → (A → List Token → Type 0)
 FairC all P o = Fair all Begins (MayBegin 2401) P o
 
 pub mark_fair : {B : Type 0} {all : List Token} {Q : B → List Token → Type 0} {front : List Token → List Token} (m : Mark) (s : List Token) {f : Unit {0} → Parser Token B}
-  → At all front s → Begins (front []) → ((a : Unit {0}) (r : List Token) → At all (λ u. front (Sign m ∷ u)) r → FairC all Q (f a r)) → FairC all Q (and_then (expect m s) f)
+    → At all front s → Begins (front []) → ((a : Unit {0}) (r : List Token) → At all (λ u. front (Sign m ∷ u)) r → FairC all Q (f a r)) → FairC all Q (and_then (expect m s) f)
 mark_fair m s at h k = fair_spelled (marks m) (λ _. Sign m) (mark_is m) s at h (λ a r e at1. k a r at1)
 
 pub word_fair : {B : Type 0} {all : List Token} {Q : B → List Token → Type 0} {front : List Token → List Token} (w : QuotedWord) (s : List Token) {f : Unit {0} → Parser Token B}
-  → At all front s → Begins (front []) → ((a : Unit {0}) (r : List Token) → At all (λ u. front (Quoted w ∷ u)) r → FairC all Q (f a r)) → FairC all Q (and_then (expect_word w s) f)
+    → At all front s → Begins (front []) → ((a : Unit {0}) (r : List Token) → At all (λ u. front (Quoted w ∷ u)) r → FairC all Q (f a r)) → FairC all Q (and_then (expect_word w s) f)
 word_fair w s at h k = fair_spelled (words w) (λ _. Quoted w) (word_is w) s at h (λ a r e at1. k a r at1)
 
 token_among : (front : List Token) (t : Token) (r : List Token) → AreTokens (front ++ t ∷ r) → IsToken t
@@ -121,7 +120,7 @@ token_among [] t r h = h.0
 token_among (x ∷ front) t r h = token_among front t r h.1
 
 pub name_fair : {B : Type 0} {all : List Token} {Q : B → List Token → Type 0} {front : List Token → List Token} → AreTokens all → (s : List Token) {f : List ℕ → Parser Token B}
-  → At all front s → Begins (front []) → ((n : List ℕ) (r : List Token) → IsName n → At all (λ u. front (Identifier n ∷ u)) r → FairC all Q (f n r)) → FairC all Q (and_then (one_of names s) f)
+    → At all front s → Begins (front []) → ((n : List ℕ) (r : List Token) → IsName n → At all (λ u. front (Identifier n ∷ u)) r → FairC all Q (f n r)) → FairC all Q (and_then (one_of names s) f)
 name_fair {front} formed s at h k = fair_spelled names (λ n. Identifier n) name_is s at h
     (λ n r e at1. k n r (token_among (front []) (Identifier n) r (subst AreTokens (at.is ∙ at.law s ∙ ap (λ z. front [] ++ z) e) formed)) at1)
 

@@ -1,5 +1,5 @@
 -- Types and casts that are read.
-use Rattle.std.proofs.Common.{◌≡◌, List, [], ◌∷◌, Option, Some, None, refl, sym, ap, ◌∙◌}
+use Rattle.std.proofs.Common.{◌≡◌, List, ◌∷◌, Option, Some, None, refl, ◌∙◌}
 use Rattle.std.specs.Option.{IfSome}
 use Rattle.c_tree.specs.Tree.{ObjectType, Int, Word, Byte, Struct, Named, VoidPointer, Pointer}
 use Rattle.c_tree.specs.declared.operators.CCast.{CCast}
@@ -69,14 +69,14 @@ module _ (all : List Token) (formed : AreTokens all) where
       let f = hole Int tt in let start = begins_by at f (spell_type Int f.more) refl in
       fair_either (begins names s) (λ _. name_fair formed s at start (λ n r is at1. reads (Named n) r (at1, is)))
       (λ _. fair_either (begins (words word.Struct) s)
-        (λ _. word_fair word.Struct s at start (λ _ r at1.
-          name_fair formed r at1 (let g = hole (Struct a_name) a_name_is in begins_by at1 g (Identifier a_name ∷ g.more) refl) (λ n r is at2. reads (Struct n) r (at2, is))))
+      (λ _. word_fair word.Struct s at start (λ _ r at1.
+      name_fair formed r at1 (let g = hole (Struct a_name) a_name_is in begins_by at1 g (Identifier a_name ∷ g.more) refl) (λ n r is at2. reads (Struct n) r (at2, is))))
       (λ _. fair_either (begins (words word.Unsigned) s)
-        (λ _. word_fair word.Unsigned s at start (λ _ r at1.
-          word_fair word.Char r at1 (let g = hole Byte tt in begins_by at1 g (Quoted word.Char ∷ g.more) refl) (λ _ r at2. reads Byte r (at2, tt))))
+      (λ _. word_fair word.Unsigned s at start (λ _ r at1.
+      word_fair word.Char r at1 (let g = hole Byte tt in begins_by at1 g (Quoted word.Char ∷ g.more) refl) (λ _ r at2. reads Byte r (at2, tt))))
       (λ _. fair_either (begins (words word.Void) s)
-        (λ _. word_fair word.Void s at start (λ _ r at1.
-          mark_fair mark.Star r at1 (let g = hole VoidPointer tt in begins_by at1 g (Sign mark.Star ∷ g.more) refl) (λ _ r at2. reads VoidPointer r (at2, tt))))
+      (λ _. word_fair word.Void s at start (λ _ r at1.
+      mark_fair mark.Star r at1 (let g = hole VoidPointer tt in begins_by at1 g (Sign mark.Star ∷ g.more) refl) (λ _ r at2. reads VoidPointer r (at2, tt))))
       (λ _. fair_token scalars s at start (λ t of r c e. let (same, is) = scalar_is t of c in reads of r (at_spelled at (spell_type of) (type_follow of) r (e ∙ same r), is))))))
 
   pub type_fair : (front : List Token → List Token) (s : List Token) → At all front s → TypeHole front → FairC all (ReadType all front) (object_type s)
@@ -88,22 +88,22 @@ module _ (all : List Token) (formed : AreTokens all) where
   result_fair front s at hole =
       let f = hole None tt in
       fair_either (begins (words word.Void) s)
-        (λ _. word_fair word.Void s at (begins_by at f (Quoted word.Void ∷ f.more) refl) (λ _ r at1.
-          fair_either (begins (marks mark.Star) r)
-            (λ _. mark_fair mark.Star r at1 (let g = hole None tt in begins_by at1 g g.more refl) (λ _ r at2.
-              fair_then (stars_fair front VoidPointer r (λ of is. hole (Some of) is) (at2, tt)) (λ of r h. reads (Some of) r h)))
-            (λ _. reads None r (at1, tt))))
-        (λ _. fair_then (type_fair front s at (λ of is. hole (Some of) is)) (λ of r h. reads (Some of) r h))
+      (λ _. word_fair word.Void s at (begins_by at f (Quoted word.Void ∷ f.more) refl) (λ _ r at1.
+      fair_either (begins (marks mark.Star) r)
+      (λ _. mark_fair mark.Star r at1 (let g = hole None tt in begins_by at1 g g.more refl) (λ _ r at2.
+      fair_then (stars_fair front VoidPointer r (λ of is. hole (Some of) is) (at2, tt)) (λ of r h. reads (Some of) r h)))
+      (λ _. reads None r (at1, tt))))
+      (λ _. fair_then (type_fair front s at (λ of is. hole (Some of) is)) (λ of r h. reads (Some of) r h))
 
   pub cast_type_fair : (front : List Token → List Token) (s : List Token) → At all front s → CastHole front → FairC all (ReadCast all front) (cast_type s)
   unfolding cast_type struct_pointer void_cast
   cast_type_fair front s at hole =
       let f = hole cast_.Int tt in let start = begins_by at f (spell_cast cast_.Int f.more) refl in
       fair_either (begins (words word.Struct) s)
-        (λ _. word_fair word.Struct s at start (λ _ r at1.
-          name_fair formed r at1 (let g = hole (cast_.StructPointer a_name) a_name_is in begins_by at1 g (Identifier a_name ∷ Sign mark.Star ∷ g.more) refl) (λ n r is at2.
-          mark_fair mark.Star r at2 (let g = hole (cast_.StructPointer n) is in begins_by at2 g (Sign mark.Star ∷ g.more) refl) (λ _ r at3. reads (cast_.StructPointer n) r (at3, is)))))
+      (λ _. word_fair word.Struct s at start (λ _ r at1.
+      name_fair formed r at1 (let g = hole (cast_.StructPointer a_name) a_name_is in begins_by at1 g (Identifier a_name ∷ Sign mark.Star ∷ g.more) refl) (λ n r is at2.
+      mark_fair mark.Star r at2 (let g = hole (cast_.StructPointer n) is in begins_by at2 g (Sign mark.Star ∷ g.more) refl) (λ _ r at3. reads (cast_.StructPointer n) r (at3, is)))))
       (λ _. fair_either (begins (words word.Void) s)
-        (λ _. word_fair word.Void s at start (λ _ r at1.
-          mark_fair mark.Star r at1 (let g = hole cast_.VoidPointer tt in begins_by at1 g (Sign mark.Star ∷ g.more) refl) (λ _ r at2. reads cast_.VoidPointer r (at2, tt))))
+      (λ _. word_fair word.Void s at start (λ _ r at1.
+      mark_fair mark.Star r at1 (let g = hole cast_.VoidPointer tt in begins_by at1 g (Sign mark.Star ∷ g.more) refl) (λ _ r at2. reads cast_.VoidPointer r (at2, tt))))
       (λ _. fair_token scalar_casts s at start (λ t to r c e. let (same, is) = scalar_cast_is t to c in reads to r (at_spelled at (spell_cast to) (cast_follow to) r (e ∙ same r), is))))

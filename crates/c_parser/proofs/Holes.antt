@@ -1,5 +1,5 @@
 -- Places in texts where any tree of some kind may stand, with what it demands of levels.
-use Rattle.std.proofs.Common.{◌≡◌, ℕ, zero, suc, ◌+◌, ◌<◌, List, [], ◌∷◌, ◌++◌, length, Option, refl, sym, ap, subst, ◌∙◌, arith, length-append}
+use Rattle.std.proofs.Common.{◌≡◌, ℕ, zero, suc, ◌+◌, List, [], ◌∷◌, ◌++◌, length, Option, refl, ap, subst, ◌∙◌, arith, length-append}
 use Rattle.std.specs.List.{Contains}
 use Rattle.std.proofs.lemmas.List.Elements.{Contains-append_left, Contains-append_right}
 use Rattle.std.specs.Option.{IfSome}
@@ -11,7 +11,7 @@ use Rattle.c_grammar.specs.Spelling.{spell_type, spell_result, spell_cast, spell
 use Rattle.c_grammar.specs.Grammar.{IsObjectType, IsCast, IsExpr, IsPlace, IsProgram}
 use Rattle.c_grammar.specs.Types.{Known}
 use Rattle.c_grammar.specs.Demands.{Demand, Demands, Level, after, expr_demands, place_demands, program_demands}
-use Rattle.c_grammar.specs.Text.{Begins, MayBegin, Spells}
+use Rattle.c_grammar.specs.Text.{Begins, MayBegin}
 use Rattle.token_parsing.proofs.Fair.{At}
 
 -- ---- where a level stands among demands
@@ -54,7 +54,7 @@ pub record Filled (front spelled : List Token → List Token) (Has : ℕ → ℕ
 
 -- what is before a place in the tree begins a text
 pub begins_by : {all : List Token} {front front' spelled : List Token → List Token} {Has : ℕ → ℕ → Type 0} {s : List Token} → At all front' s
-  → (f : Filled front spelled Has) (x : List Token) → front (spelled f.more) ≡ front' x → Begins (front' [])
+    → (f : Filled front spelled Has) (x : List Token) → front (spelled f.more) ≡ front' x → Begins (front' [])
 begins_by at f x e = (f.c, x, record { of_grammar = f.of_grammar; spelled = f.is_spelled ∙ e ∙ at.law x })
 
 moved : (front before : List Token → List Token) (m n : ℕ) → Law front → m ≡ length (before []) → length (front []) + (m + n) ≡ length (front (before [])) + n
@@ -63,8 +63,8 @@ moved front before m n law e =
 
 -- a part of the tree
 pub inner : {front spelled : List Token → List Token} {Has : ℕ → ℕ → Type 0} → Law front → (before : List Token → List Token) (m : ℕ) → m ≡ length (before [])
-  → {spelled' : List Token → List Token} {Has' : ℕ → ℕ → Type 0} (f : Filled front spelled Has) (more : List Token) → spelled f.more ≡ before (spelled' more)
-  → ((n l : ℕ) → Has' n l → Has (m + n) l) → Filled (λ u. front (before u)) spelled' Has'
+    → {spelled' : List Token → List Token} {Has' : ℕ → ℕ → Type 0} (f : Filled front spelled Has) (more : List Token) → spelled f.more ≡ before (spelled' more)
+    → ((n l : ℕ) → Has' n l → Has (m + n) l) → Filled (λ u. front (before u)) spelled' Has'
 inner {front} law before m long f more e has = record {
   c = f.c;
   more = more;

@@ -1,3 +1,4 @@
+pub mod Clauses
 pub mod Digits
 pub mod FairExpressions
 pub mod FairPrograms

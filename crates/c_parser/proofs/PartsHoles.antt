@@ -1,24 +1,20 @@
 -- Places in a program after some of its parts.
-use Rattle.std.proofs.Common.{◌≡◌, ℕ, suc, ◌+◌, ◌≤◌, Bool, true, false, List, [], ◌∷◌, ◌++◌, length, Option, Some, None, refl, sym, ap, subst, ◌∙◌, arith}
+use Rattle.std.proofs.Common.{◌≡◌, ℕ, ◌+◌, Bool, true, false, List, [], ◌∷◌, length, refl, sym, ap, subst, ◌∙◌, arith}
 use Rattle.std.specs.List.{AllByRecursion}
-use Rattle.c_tree.specs.Tree.{Statement, body_of}
 use Rattle.c_tree.specs.declared.program.CVariable.{CVariable}
-use Rattle.c_tree.specs.declared.program.CStruct.{CStruct}
 use Rattle.c_tree.specs.declared.program.CDeclaration.{CDeclaration}
 use Rattle.c_tree.specs.declared.program.CPrototype.{CPrototype}
 use Rattle.c_tree.specs.declared.program.CFunction.{CFunction}
 use Rattle.c_tree.specs.declared.program.CMain.{CMain}
-use Rattle.c_tree.specs.declared.program.CProgram.{CProgram}
 use Rattle.c_grammar.specs.Token.{Token}
-use Rattle.c_grammar.specs.Spelling.{Spelling, count, spell_all, spell_forward, spell_declaration, spell_variable_line, spell_prototype, spell_function, spell_main, program_tokens}
-use Rattle.c_grammar.specs.Grammar.{IsName, IsVariable, IsDeclaration, IsPrototype, IsFunction, IsMain, IsProgram}
+use Rattle.c_grammar.specs.Spelling.{Spelling, count, spell_all, spell_forward, spell_declaration, spell_variable_line, spell_prototype, spell_function, spell_main}
+use Rattle.c_grammar.specs.Grammar.{IsName, IsVariable, IsDeclaration, IsPrototype, IsFunction, IsMain}
 use Rattle.c_grammar.specs.Types.{Known}
-use Rattle.c_grammar.specs.Demands.{Names, Demands, and_function, function_demands, main_demands, program_demands}
+use Rattle.c_grammar.specs.Demands.{Names, Demands, and_function, function_demands, main_demands}
 use Rattle.c_grammar.proofs.Spelled.{count_more, all_follow}
 use Rattle.c_grammar.proofs.SpelledProgram.{forward_follow, declaration_follow, line_follow, prototype_follow, function_follow}
 use Rattle.c_parser.specs.declared.program.Parts.{Parts}
 use Rattle.c_parser.specs.Programs.{is_empty, both, no_functions, no_prototypes, no_globals, no_declarations, with_forward, with_declaration, with_global, with_prototype, with_function, program_of}
-use Rattle.c_parser.specs.Depth.{body_depth}
 use Rattle.c_parser.proofs.Holes.{Among, Filled, in_first, in_second, in_after, NoLevel}
 use Rattle.c_parser.proofs.Pushed.{all_pushed, each_pushed, all_last}
 
@@ -130,11 +126,11 @@ filled_function p is f isf = record {
   of_grammar = (is.0, is.1, is.2, is.3, each_pushed IsFunction p.functions f is.4 isf, (tt, tt));
   is_spelled = function_pushed p f (spell_main empty_main []);
   kept = λ n l h. moved (length (spell_parts p []) + n) (omega (arith, parts_long p))
-    (in_second _ (in_after (count (spell_all spell_forward) p.forwards)
-    (in_second _ (in_after (count (spell_all spell_declaration) p.declarations)
-    (in_second _ (in_after (count (spell_all spell_variable_line) p.globals)
-    (in_second _ (in_after (count (spell_all spell_prototype) p.prototypes)
-    (in_first _ (all_last spell_function function_follow and_function (function_demands _) (λ s. Unit {0}) (λ s a i. tt) _ tt p.functions f n l (λ s i. h _ s)))))))))));
+      (in_second _ (in_after (count (spell_all spell_forward) p.forwards)
+      (in_second _ (in_after (count (spell_all spell_declaration) p.declarations)
+      (in_second _ (in_after (count (spell_all spell_variable_line) p.globals)
+      (in_second _ (in_after (count (spell_all spell_prototype) p.prototypes)
+      (in_first _ (all_last spell_function function_follow and_function (function_demands _) (λ s. Unit {0}) (λ s a i. tt) _ tt p.functions f n l (λ s i. h _ s)))))))))));
 }
 
 abbrev pub MainHas : CMain → ℕ → ℕ → Type 0
@@ -147,11 +143,11 @@ filled_main p is m ism = record {
   of_grammar = (is.0, is.1, is.2, is.3, is.4, ism);
   is_spelled = refl;
   kept = λ n l h. moved (length (spell_parts p []) + n) (omega (arith, parts_long p))
-    (in_second _ (in_after (count (spell_all spell_forward) p.forwards)
-    (in_second _ (in_after (count (spell_all spell_declaration) p.declarations)
-    (in_second _ (in_after (count (spell_all spell_variable_line) p.globals)
-    (in_second _ (in_after (count (spell_all spell_prototype) p.prototypes)
-    (in_second _ (in_after (count (spell_all spell_function) p.functions) (in_first _ (h _))))))))))));
+      (in_second _ (in_after (count (spell_all spell_forward) p.forwards)
+      (in_second _ (in_after (count (spell_all spell_declaration) p.declarations)
+      (in_second _ (in_after (count (spell_all spell_variable_line) p.globals)
+      (in_second _ (in_after (count (spell_all spell_prototype) p.prototypes)
+      (in_second _ (in_after (count (spell_all spell_function) p.functions) (in_first _ (h _))))))))))));
 }
 
 pub filled_forward : (p : Parts) → AreParts p → no_declarations p ≡ true → (n : List ℕ) → IsName n → Filled (spell_parts p) (spell_forward n) NoLevel

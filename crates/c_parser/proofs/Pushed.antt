@@ -1,13 +1,13 @@
 -- Lists that grow at their end: what they spell, and what they demand.
-use Rattle.std.proofs.Common.{◌≡◌, ℕ, ◌+◌, ◌≤◌, max, List, [], ◌∷◌, ◌++◌, length, refl, sym, ap, subst, ◌∙◌, arith}
+use Rattle.std.proofs.Common.{◌≡◌, ℕ, ◌+◌, ◌≤◌, List, [], ◌∷◌, ◌++◌, refl, ap, subst, arith}
 use Rattle.std.specs.List.{AllByRecursion}
-use Rattle.c_tree.specs.Tree.{Expr, Statement, Body, Empty, Then, body_of}
+use Rattle.c_tree.specs.Tree.{Expr, Statement, body_of}
 use Rattle.c_grammar.specs.Token.{Token}
-use Rattle.c_grammar.specs.Spelling.{Spelling, count, spell_all, spell_next, spell_listed, spell_statement, spell_body, spell_expr}
+use Rattle.c_grammar.specs.Spelling.{Spelling, count, spell_all, spell_statement, spell_body}
 use Rattle.c_grammar.specs.Grammar.{IsStatement, IsBody}
-use Rattle.c_grammar.specs.Demands.{Demands, Names, after, all_demands, body_demands, statement_demands, labels_in}
+use Rattle.c_grammar.specs.Demands.{Demands, Names, all_demands, body_demands, statement_demands, labels_in}
 use Rattle.c_grammar.specs.Types.{Known}
-use Rattle.c_grammar.proofs.Spelled.{Follow, count_more, all_follow, statement_follow, body_follow}
+use Rattle.c_grammar.proofs.Spelled.{Follow, count_more, statement_follow}
 use Rattle.c_parser.specs.Depth.{statement_depth, body_depth, expr_depth, arguments_depth}
 use Rattle.c_parser.proofs.Holes.{Among, in_first, in_second, in_after}
 
@@ -45,11 +45,11 @@ pub all_last : {S A : Type 0} (spell : Spelling A) → Follow spell → (step : 
 all_last spell follow step demands I kept s i [] a n l h = moved (0 + n) (omega arith) (in_first _ (h s i))
 all_last spell follow step demands I kept s i (x ∷ all) a n l h =
     moved (count (spell_all spell) (x ∷ all) + n) (omega (arith, count_more spell follow x (spell_all spell all [])))
-      (in_second _ (in_after (count spell x) (all_last spell follow step demands I kept (step s x) (kept s x i) all a n l h)))
+    (in_second _ (in_after (count spell x) (all_last spell follow step demands I kept (step s x) (kept s x i) all a n l h)))
 
 pub body_last : (k : Known) (reached above : Names) (level : ℕ) (all : List Statement) (a : Statement) (n l : ℕ) → ((above : Names) → Among (statement_demands k reached above level a) n l)
     → Among (body_demands k reached above level (body_of (all ++ a ∷ []))) (count spell_body (body_of all) + n) l
 body_last k reached above level [] a n l h = moved (0 + n) (omega arith) (in_first _ (h above))
 body_last k reached above level (x ∷ all) a n l h =
     moved (count spell_body (body_of (x ∷ all)) + n) (omega (arith, count_more spell_statement statement_follow x (spell_body (body_of all) [])))
-      (in_second _ (in_after (count spell_statement x) (body_last k reached (above ++ labels_in x) level all a n l h)))
+    (in_second _ (in_after (count spell_statement x) (body_last k reached (above ++ labels_in x) level all a n l h)))

@@ -1,6 +1,6 @@
 -- No parser gives tokens back.
 use Rattle.std.proofs.Common.{ℕ, zero, suc, Bool, true, false, List, [], ◌∷◌, length, Option, Some, None, Ok}
-use Rattle.c_tree.specs.Tree.{ObjectType, VoidPointer, Expr, Place, Variable, Pointee, Member, Index, Statement}
+use Rattle.c_tree.specs.Tree.{ObjectType, VoidPointer, Expr, Place, Statement}
 use Rattle.c_tree.specs.declared.statement.CCallee.{CCallee}
 use Rattle.c_tree.specs.declared.program.CVariable.{CVariable}
 use Rattle.c_tree.specs.declared.program.CMember.{CMember}
@@ -13,7 +13,7 @@ use Rattle.c_parser.specs.declared.program.Parts.{Parts}
 use Rattle.c_parser.specs.Classes.{names, words, marks, unaries, expect}
 use Rattle.c_parser.specs.Types.{struct_type, byte_type, void_pointer, base_type, pointer_to, stars, object_type, after_void, result_type, struct_pointer, void_cast, cast_type}
 use Rattle.c_parser.specs.Expressions.{number, word_number, null, member, element, selected, begins_selector, selectors, pointee, variable, base_place, place, read_pointee, address, unary, binary, cast, begins_cast, opened, read_variable, expr_by, expr}
-use Rattle.c_parser.specs.Statements.{next_argument, some_arguments, listed_arguments, call, indirect, callee, calls, malloc, get_char, value, call_into, assigned, callee_of, label_of, called, labelled, placed, free, put_char, goto, returned, return, no_brace, next_statement, statements, body, test, otherwise, conditional, while_loop, simple, statement_by, statement}
+use Rattle.c_parser.specs.Statements.{next_argument, some_arguments, listed_arguments, call, indirect, callee, calls, malloc_opening, malloc, get_char, value, call_into, assigned, callee_of, label_of, called, labelled, placed, free, put_char, goto, returned, return_with, no_brace, next_statement, statements, body, test, otherwise, conditional, while_loop, simple, statement_by, statement}
 use Rattle.c_parser.specs.Programs as programs
 use Rattle.c_parser.specs.Programs.{array_length, next_member, members, next_type, types_after, types, typedef_of, pointer_name, typedef, next_parameter, parameters_after, parameters, begins_local, next_local, locals, block, no_functions, no_prototypes, no_globals, no_declarations, when, forward, structure, type_definition, global, prototype, function, after_parameters, after_name, after_result, after_struct_name, after_struct, next_part, parts, main, end_of, program}
 
@@ -134,10 +134,10 @@ module _ (child : Parser Token Expr) (h : Shrinks child) where
       (then_shrinks (one_shrinks _) (λ _. then_shrinks (one_shrinks _) (λ _. then_shrinks h (λ a. then_shrinks (one_shrinks _) (λ _. pure_shrinks _)))))
 
   pub malloc_shrinks : (p : Place) → Shrinks (malloc p)
-  unfolding malloc
+  unfolding malloc malloc_opening
   malloc_shrinks p =
-      then_shrinks (one_shrinks _) (λ _. then_shrinks (one_shrinks _) (λ _. then_shrinks (one_shrinks _) (λ _. then_shrinks (one_shrinks _) (λ _. then_shrinks type_shrinks (λ of.
-      then_shrinks (one_shrinks _) (λ _. then_shrinks (one_shrinks _) (λ _. then_shrinks (one_shrinks _) (λ _. pure_shrinks _))))))))
+      then_shrinks (then_shrinks (one_shrinks _) (λ _. then_shrinks (one_shrinks _) (λ _. then_shrinks (one_shrinks _) (λ _. then_shrinks (one_shrinks _) (λ _. pure_shrinks _))))) (λ _. then_shrinks type_shrinks (λ of.
+      then_shrinks (one_shrinks _) (λ _. then_shrinks (one_shrinks _) (λ _. then_shrinks (one_shrinks _) (λ _. pure_shrinks _)))))
 
   pub get_char_shrinks : (p : Place) → Shrinks (get_char p)
   unfolding get_char
@@ -172,7 +172,7 @@ module _ (child : Parser Token Expr) (h : Shrinks child) where
   returned_shrinks = either_shrinks (begins (marks mark.Semicolon)) (pure_shrinks _) (then_shrinks h (λ a. pure_shrinks _))
 
   pub simple_shrinks : Shrinks (simple child)
-  unfolding simple free put_char goto return
+  unfolding simple free put_char goto return_with
   simple_shrinks =
       either_shrinks (begins (words word.Free)) (then_shrinks (one_shrinks _) (λ _. then_shrinks (one_shrinks _) (λ _. then_shrinks h (λ a. then_shrinks (one_shrinks _) (λ _. then_shrinks (one_shrinks _) (λ _. pure_shrinks _))))))
       (either_shrinks (begins (words word.PutChar)) (then_shrinks (one_shrinks _) (λ _. then_shrinks (one_shrinks _) (λ _. then_shrinks h (λ a. then_shrinks (one_shrinks _) (λ _. then_shrinks (one_shrinks _) (λ _. pure_shrinks _))))))

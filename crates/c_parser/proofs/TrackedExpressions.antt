@@ -1,5 +1,5 @@
 -- Expressions of a text are followed.
-use Rattle.std.proofs.Common.{◌≡◌, ℕ, zero, suc, ◌+◌, ◌<◌, ◌≤◌, max, Bool, true, false, List, [], ◌∷◌, length, Option, Some, None, Ok, refl, ◌∙◌, arith}
+use Rattle.std.proofs.Common.{◌≡◌, ℕ, zero, suc, ◌≤◌, Bool, true, false, List, ◌∷◌, length, Ok, refl, ◌∙◌, arith}
 use Rattle.c_tree.specs.Tree.{Expr, Read, Number, WordNumber, Null, Address, Unary, Binary, Cast, Place, Variable, Pointee, Member, Index}
 use Rattle.c_tree.specs.declared.operators.CUnary.{CUnary}
 use Rattle.c_tree.specs.declared.operators.CUnary.TheVariants as unary_
@@ -9,15 +9,15 @@ use Rattle.c_tree.specs.declared.operators.CCast.{CCast}
 use Rattle.c_tree.specs.declared.operators.CCast.TheVariants as cast_
 use Rattle.c_grammar.specs.declared.token.Word.TheVariants as word
 use Rattle.c_grammar.specs.declared.token.Mark.TheVariants as mark
-use Rattle.c_grammar.specs.Token.{Token, Identifier, Numeral, Quoted, Sign}
+use Rattle.c_grammar.specs.Token.{Token, Identifier, Sign}
 use Rattle.c_grammar.specs.Spelling.{spell_cast, spell_expr, spell_place, unary_mark, binary_mark}
 use Rattle.c_grammar.specs.Grammar.{IsExpr, IsPlace, IsNumber, IsWordNumber}
-use Rattle.token_parsing.specs.Parser.{Parser, Outcome, and_then, one_of, begins, rest, again, repeat, either}
-use Rattle.token_parsing.proofs.Tracked.{Shrinks, Short, stops_short, short_then, Along, ended, last, longer, Tracked, too_deep, one_shrinks, pure_shrinks, then_shrinks, Takes, takes_token, takes_either, along_some, same_begins, begun_short, short_tracked, track_first, track_second, track_then, track_token, track_pure, track_plain, track_left, track_turn, track_no_turn}
-use Rattle.c_parser.specs.Classes.{same_word, same_mark, names, words, marks, unaries, binaries, cast_words, expect}
+use Rattle.token_parsing.specs.Parser.{Parser, Outcome, and_then, begins, rest, again, repeat}
+use Rattle.token_parsing.proofs.Tracked.{Shrinks, Short, stops_short, short_then, Along, ended, last, longer, Tracked, too_deep, one_shrinks, pure_shrinks, then_shrinks, Takes, takes_token, takes_either, along_some, same_begins, begun_short, short_tracked, track_first, track_second, track_then, track_pure, track_plain, track_turn, track_no_turn}
+use Rattle.c_parser.specs.Classes.{same_word, same_mark, names, words, marks, unaries, cast_words}
 use Rattle.c_parser.specs.Expressions.{largest_int, largest_word, number, word_number, null, begins_selector, member, element, selected, selectors, pointee, variable, base_place, place, read_pointee, address, unary, binary, cast, begins_cast, opened, read_variable, expr_by, expr}
 use Rattle.c_parser.specs.Depth.{expr_depth, place_depth}
-use Rattle.c_parser.proofs.Shrinks.{selected_shrinks, selectors_shrinks, pointee_shrinks, base_place_shrinks, place_shrinks, cast_type_shrinks, cast_shrinks, binary_shrinks, opened_shrinks, expr_shrinks}
+use Rattle.c_parser.proofs.Shrinks.{selected_shrinks, selectors_shrinks, pointee_shrinks, place_shrinks, cast_type_shrinks, opened_shrinks, expr_shrinks}
 use Rattle.c_parser.proofs.TrackedTokens.{mark_tracked, word_tracked, name_tracked, number_tracked, unary_tracked, binary_tracked}
 use Rattle.c_parser.proofs.TrackedTypes.{cast_tracked}
 
@@ -115,18 +115,18 @@ if_both b x = elim b [ true ↦ x | false ↦ false ]
 opens : (r : List Token) (t : Token) → begins_cast (t ∷ r) ≡ true → begins (marks mark.Open) (t ∷ r) ≡ true
 opens r t e = by (begins (marks mark.Open) (t ∷ r)) e
   where
-  by : (b : Bool) → if_both b (begins cast_words r) ≡ true → b ≡ true
-  by true e = refl
-  by false e = absurd cc
+    by : (b : Bool) → if_both b (begins cast_words r) ≡ true → b ≡ true
+    by true e = refl
+    by false e = absurd cc
 
 -- the test of the text, or a token more than is known is taken
 cast_known : (n : ℕ) (t : Token) (w r : List Token) → Along n w r → begins_cast (t ∷ r) ≡ begins_cast (t ∷ w)
 unfolding begins
 cast_known n t w r h = by (begins (marks mark.Open) (t ∷ w))
   where
-  by : (b : Bool) → if_both b (begins cast_words r) ≡ if_both b (begins cast_words w)
-  by true = same_begins cast_words h
-  by false = refl
+    by : (b : Bool) → if_both b (begins cast_words r) ≡ if_both b (begins cast_words w)
+    by true = same_begins cast_words h
+    by false = refl
 
 -- a cast that begins with the last token that is known
 cast_last : (child : Parser Token Expr) → Shrinks child → (t : Token) (r : List Token) → begins_cast (t ∷ r) ≡ true → Short (suc (length r)) (cast child (t ∷ r))
@@ -198,11 +198,11 @@ module _ (n : ℕ) (W : Type 0) (d : ℕ) (child : Parser Token Expr) (shrinks :
   place_by_base f shr whole var ptr (Pointee a) is deep rest s h k = ptr a rest s is deep h (λ r h. k (length r) r (omega arith) h)
   place_by_base f shr whole var ptr (Member p name) is deep rest s h k =
       place_by_base f shr whole var ptr p is.0 deep (Sign mark.Dot ∷ Identifier name ∷ rest) s h (λ g r enough h'.
-        track_turn begins_selector (selected child) f g p r (selector_steady n _ r h') enough (along_some h') (selected_takes p r) (selected_shrinks child shrinks) shr (member_tracked p name rest r h') k)
+      track_turn begins_selector (selected child) f g p r (selector_steady n _ r h') enough (along_some h') (selected_takes p r) (selected_shrinks child shrinks) shr (member_tracked p name rest r h') k)
   place_by_base f shr whole var ptr (Index p a) is deep rest s h k =
       place_by_base f shr whole var ptr p is.0 (λ w. let both = deep w in grind (arith, both)) (Sign mark.OpenBracket ∷ spell_expr a (Sign mark.CloseBracket ∷ rest)) s h (λ g r enough h'.
-        track_turn begins_selector (selected child) f g p r (selector_steady n _ r h') enough (along_some h') (selected_takes p r) (selected_shrinks child shrinks) shr
-          (element_tracked p a is.1 (λ w. let both = deep w in grind (arith, both)) rest r h') k)
+      track_turn begins_selector (selected child) f g p r (selector_steady n _ r h') enough (along_some h') (selected_takes p r) (selected_shrinks child shrinks) shr
+      (element_tracked p a is.1 (λ w. let both = deep w in grind (arith, both)) rest r h') k)
 
   no_selectors : {B : Type 0} (y : B) (f : Place → Parser Token B) (p : Place) (rest : List Token) → NoSelector rest → ((r : List Token) → Along n rest r → Tracked n W y rest (f p r)) → Then y rest f p rest
   no_selectors y f p rest none k g r enough h = track_no_turn begins_selector (selected child) f g p r (selector_steady n rest r h ∙ none) (k r h)
@@ -218,10 +218,10 @@ module _ (n : ℕ) (W : Type 0) (d : ℕ) (child : Parser Token Expr) (shrinks :
   unfolding place base_place variable begins same_mark
   place_tracked p is deep rest s none h =
       place_by_base {y = p} {rest' = rest} (λ p s. Ok (p, s)) (λ p. pure_shrinks p) (λ s. and_then (base_place child s) (selectors child))
-        (λ name rest s h k. track_then (track_first (begins names s) _ _ (same_begins names h) (name_tracked name h (λ _. pure_shrinks _) (λ r h. track_pure (Variable name) h))) (selectors_shrinks child shrinks) (λ r h. track_plain (selectors child (Variable name) r) (k r h)))
-        (λ a rest s is deep h k. track_then (track_second (begins names s) _ _ (same_begins names h) (mark_tracked mark.Open h (λ _. pointee_shrinks child shrinks) (λ r h. pointee_tracked a is deep rest r h))) (selectors_shrinks child shrinks)
-          (λ r h. track_plain (selectors child (Pointee a) r) (k r h)))
-        p is deep rest s h (no_selectors p (λ p s. Ok (p, s)) p rest none (λ r h. track_pure p h))
+      (λ name rest s h k. track_then (track_first (begins names s) _ _ (same_begins names h) (name_tracked name h (λ _. pure_shrinks _) (λ r h. track_pure (Variable name) h))) (selectors_shrinks child shrinks) (λ r h. track_plain (selectors child (Variable name) r) (k r h)))
+      (λ a rest s is deep h k. track_then (track_second (begins names s) _ _ (same_begins names h) (mark_tracked mark.Open h (λ _. pointee_shrinks child shrinks) (λ r h. pointee_tracked a is deep rest r h))) (selectors_shrinks child shrinks)
+      (λ r h. track_plain (selectors child (Pointee a) r) (k r h)))
+      p is deep rest s h (no_selectors p (λ p s. Ok (p, s)) p rest none (λ r h. track_pure p h))
 
   -- ---- after an opening parenthesis
 
@@ -277,12 +277,12 @@ module _ (n : ℕ) (W : Type 0) (d : ℕ) (child : Parser Token Expr) (shrinks :
         track_second (begins (marks mark.Star) s) _ _ (same_begins (marks mark.Star) h) (track_second (begins (marks mark.Ampersand) s) _ _ (same_begins (marks mark.Ampersand) h)
         (track_second (begins unaries s) _ _ (same_begins unaries h)
         (cast_chosen n W child shrinks opens (Cast to a) rest w s (cast_begins to (Sign mark.Close ∷ spell_expr a (Sign mark.Close ∷ rest))) h
-          (mark_tracked mark.Open h (λ _. then_shrinks cast_type_shrinks (λ _. then_shrinks (one_shrinks _) (λ _. then_shrinks shrinks (λ _. then_shrinks (one_shrinks _) (λ _. pure_shrinks _))))) (λ r h.
-          track_then (cast_tracked n W to (Sign mark.Close ∷ spell_expr a (Sign mark.Close ∷ rest)) r h) (λ _. then_shrinks (one_shrinks _) (λ _. then_shrinks shrinks (λ _. then_shrinks (one_shrinks _) (λ _. pure_shrinks _)))) (λ r h.
-          mark_tracked mark.Close h (λ _. then_shrinks shrinks (λ _. then_shrinks (one_shrinks _) (λ _. pure_shrinks _))) (λ r h.
-          track_then (good a is deep (Sign mark.Close ∷ rest) r (no_selector_mark rest).0 h) (λ _. then_shrinks (one_shrinks _) (λ _. pure_shrinks _)) (λ r h.
-          mark_tracked mark.Close h (λ _. pure_shrinks _) (λ r h. track_pure (Cast to a) h))))))
-          (begins_cast s) refl)))
+        (mark_tracked mark.Open h (λ _. then_shrinks cast_type_shrinks (λ _. then_shrinks (one_shrinks _) (λ _. then_shrinks shrinks (λ _. then_shrinks (one_shrinks _) (λ _. pure_shrinks _))))) (λ r h.
+        track_then (cast_tracked n W to (Sign mark.Close ∷ spell_expr a (Sign mark.Close ∷ rest)) r h) (λ _. then_shrinks (one_shrinks _) (λ _. then_shrinks shrinks (λ _. then_shrinks (one_shrinks _) (λ _. pure_shrinks _)))) (λ r h.
+        mark_tracked mark.Close h (λ _. then_shrinks shrinks (λ _. then_shrinks (one_shrinks _) (λ _. pure_shrinks _))) (λ r h.
+        track_then (good a is deep (Sign mark.Close ∷ rest) r (no_selector_mark rest).0 h) (λ _. then_shrinks (one_shrinks _) (λ _. pure_shrinks _)) (λ r h.
+        mark_tracked mark.Close h (λ _. pure_shrinks _) (λ r h. track_pure (Cast to a) h))))))
+        (begins_cast s) refl)))
 
     -- ---- expressions
 
@@ -295,11 +295,11 @@ module _ (n : ℕ) (W : Type 0) (d : ℕ) (child : Parser Token Expr) (shrinks :
     unfolding expr_by read_variable variable opened read_pointee begins same_mark
     read_tracked p is deep rest s none h =
         place_by_base {y = Read p} {rest' = rest} (λ q s. Ok (Read q, s)) (λ q. pure_shrinks (Read q)) (expr_by child)
-          (λ name rest s h k. track_first (begins names s) _ _ (same_begins names h)
-            (track_then (name_tracked name h (λ _. pure_shrinks _) (λ r h. track_pure (Variable name) h)) (λ p. then_shrinks (selectors_shrinks child shrinks p) (λ q. pure_shrinks (Read q))) k))
-          (λ a rest s is deep h k. in_parentheses (Read p) _ _ s h (λ r h. track_first (begins (marks mark.Star) r) _ _ (same_begins (marks mark.Star) h)
-            (track_then (pointee_tracked a is deep rest r h) (λ p. then_shrinks (selectors_shrinks child shrinks p) (λ q. pure_shrinks (Read q))) k)))
-          p is deep rest s h (no_selectors (Read p) (λ q s. Ok (Read q, s)) p rest none (λ r h. track_pure (Read p) h))
+        (λ name rest s h k. track_first (begins names s) _ _ (same_begins names h)
+        (track_then (name_tracked name h (λ _. pure_shrinks _) (λ r h. track_pure (Variable name) h)) (λ p. then_shrinks (selectors_shrinks child shrinks p) (λ q. pure_shrinks (Read q))) k))
+        (λ a rest s is deep h k. in_parentheses (Read p) _ _ s h (λ r h. track_first (begins (marks mark.Star) r) _ _ (same_begins (marks mark.Star) h)
+        (track_then (pointee_tracked a is deep rest r h) (λ p. then_shrinks (selectors_shrinks child shrinks p) (λ q. pure_shrinks (Read q))) k)))
+        p is deep rest s h (no_selectors (Read p) (λ q s. Ok (Read q, s)) p rest none (λ r h. track_pure (Read p) h))
 
     number_there : (m : ℕ) → IsNumber m → (rest s : List Token) → Along n (spell_expr (Number m) rest) s → Tracked n W (Number m) rest (expr_by child s)
     unfolding expr_by number begins same_mark same_word

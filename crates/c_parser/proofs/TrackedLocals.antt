@@ -1,7 +1,7 @@
 -- The locals of a block and its statements are told apart by two tokens.
-use Rattle.std.proofs.Common.{◌≡◌, ℕ, zero, suc, ◌+◌, ◌<◌, ◌≤◌, Bool, true, false, List, [], ◌∷◌, ◌++◌, length, Option, Some, None, Ok, Err, refl, sym, ap, subst, ◌∙◌, append_assoc, arith}
+use Rattle.std.proofs.Common.{◌≡◌, ℕ, zero, suc, ◌<◌, ◌≤◌, Bool, true, false, List, [], ◌∷◌, ◌++◌, length, Some, None, Ok, Err, refl, sym, ap, subst, ◌∙◌, append_assoc, arith}
 use Rattle.std.proofs.lemmas.List.{append-nil}
-use Rattle.c_tree.specs.Tree.{ObjectType, Int, Word, Byte, Struct, Named, VoidPointer, Pointer, Expr, Place, Variable, Pointee, Member, Index, Statement, Assign, Call, Malloc, Free, GetChar, PutChar, If, IfElse, While, Goto, Label, Return, body_of}
+use Rattle.c_tree.specs.Tree.{ObjectType, Int, Word, Byte, Struct, Named, VoidPointer, Pointer, Place, Variable, Pointee, Member, Index, Statement, Assign, Call, Malloc, Free, GetChar, PutChar, If, IfElse, While, Goto, Label, Return, body_of}
 use Rattle.c_tree.specs.declared.statement.CCallee.TheVariants.{Direct, Indirect}
 use Rattle.c_tree.specs.declared.program.CVariable.{CVariable}
 use Rattle.c_grammar.specs.declared.token.Word.TheVariants as word
@@ -9,8 +9,8 @@ use Rattle.c_grammar.specs.declared.token.Mark.TheVariants as mark
 use Rattle.c_grammar.specs.Token.{Token, Identifier, Numeral, Quoted, Sign}
 use Rattle.c_grammar.specs.Spelling.{spell_all, spell_listed, spell_expr, spell_place, spell_callee, spell_statement, spell_body, spell_type, spell_variable, spell_variable_line, spell_block}
 use Rattle.c_grammar.specs.Grammar.{IsBody}
-use Rattle.token_parsing.specs.Parser.{Parser, Outcome, and_then, one_of, begins, rest, again, repeat}
-use Rattle.token_parsing.proofs.Tracked.{Shrinks, Short, stops_short, short_then, Takes, Along, ended, last, longer, Tracked, one_shrinks, pure_shrinks, then_shrinks, takes_token, takes_then, takes_either, along_some, same_begins, begun_short, short_tracked, short_turn, track_first, track_second, track_then, track_pure, track_plain, track_turn, track_no_turn}
+use Rattle.token_parsing.specs.Parser.{Parser, Outcome, and_then, begins, rest, again, repeat}
+use Rattle.token_parsing.proofs.Tracked.{Shrinks, Short, stops_short, short_then, Takes, Along, ended, last, longer, Tracked, one_shrinks, pure_shrinks, then_shrinks, takes_token, takes_then, takes_either, same_begins, begun_short, short_tracked, short_turn, track_then, track_pure, track_turn, track_no_turn}
 use Rattle.c_parser.specs.Classes.{same_word, same_mark, names, words, marks, scalars, expect}
 use Rattle.c_parser.specs.Types.{struct_type, byte_type, void_pointer, base_type, object_type}
 use Rattle.c_parser.specs.Expressions.{variable, base_place, place, expr}
@@ -18,8 +18,8 @@ use Rattle.c_parser.specs.Statements.{no_brace, next_statement, statements, simp
 use Rattle.c_parser.specs.Programs as programs
 use Rattle.c_parser.specs.Programs.{variable_of, type_words, begins_local, next_local, locals, block}
 use Rattle.c_parser.specs.Depth.{body_depth}
-use Rattle.c_parser.proofs.Shrinks.{stars_shrinks, type_shrinks, selectors_shrinks, expr_shrinks, placed_shrinks, next_statement_shrinks, statements_shrinks, statement_shrinks, variable_shrinks, next_local_shrinks, locals_shrinks}
-use Rattle.c_parser.proofs.TrackedTokens.{mark_tracked, word_tracked, name_tracked}
+use Rattle.c_parser.proofs.Shrinks.{stars_shrinks, selectors_shrinks, expr_shrinks, placed_shrinks, next_statement_shrinks, statements_shrinks, statement_shrinks, next_local_shrinks, locals_shrinks}
+use Rattle.c_parser.proofs.TrackedTokens.{mark_tracked, name_tracked}
 use Rattle.c_parser.proofs.TrackedTypes.{NoStar, type_tracked}
 use Rattle.c_parser.proofs.TrackedExpressions.{expr_tracked}
 use Rattle.c_parser.proofs.TrackedStatements.{expr_taking, statements_tracked, statement_takes, statement_tracked}
@@ -150,7 +150,7 @@ statements_name_short : (name : List ℕ) (r : List Token) → Short (suc (lengt
 unfolding statements repeat next_statement begins
 statements_name_short name r =
     short_plain _ (short_turn no_brace (next_statement (statement 2400)) (λ a s. Ok (a, s)) (length (Identifier name ∷ r)) [] (Identifier name ∷ r) refl (omega arith) (omega arith)
-      (short_then (statement_name_short 2400 name r) (λ _. pure_shrinks _)) (next_statement_shrinks (expr 2400) (expr_shrinks 2400) (statement 2400) (statement_shrinks 2400)) (λ a. pure_shrinks a))
+    (short_then (statement_name_short 2400 name r) (λ _. pure_shrinks _)) (next_statement_shrinks (expr 2400) (expr_shrinks 2400) (statement 2400) (statement_shrinks 2400)) (λ a. pure_shrinks a))
 
 -- the statements after the locals, and the closing brace
 abbrev After : List CVariable → Parser Token (List CVariable × List Statement)
@@ -171,7 +171,7 @@ after_tracked : (n : ℕ) (W : Type 0) (ls : List CVariable) (body : List Statem
     → Along n (spell_body (body_of body) (Sign mark.CloseBrace ∷ rest)) s → Tracked n W (ls, body) rest (After ls s)
 after_tracked n W ls body is deep rest s h =
     track_then (statements_tracked n W 2400 (expr 2400) (expr_shrinks 2400) (λ n V. expr_tracked n V 2400) (expr_taking 2400) (statement 2400) (statement_shrinks 2400) (statement_takes 2400) (statement_tracked n W 2400) body is deep rest s h)
-      (λ _. then_shrinks (one_shrinks _) (λ _. pure_shrinks _)) (λ r h. mark_tracked mark.CloseBrace h (λ _. pure_shrinks _) (λ r h. track_pure (ls, body) h))
+    (λ _. then_shrinks (one_shrinks _) (λ _. pure_shrinks _)) (λ r h. mark_tracked mark.CloseBrace h (λ _. pure_shrinks _) (λ r h. track_pure (ls, body) h))
 
 -- there is no local more
 no_local : (n : ℕ) (W : Type 0) (found : List CVariable) (body : List Statement) → IsBody (body_of body) → (W → body_depth (body_of body) ≤ 2400) → (rest w s : List Token) → begins_local w ≡ false → Along n w s
@@ -191,7 +191,7 @@ unfolding begins_local begins
 hidden_local _ W y found rest _ _ one (last t w r) e g =
     let (name, same) = is_name t w r one e in
     subst (λ z. Tracked (suc (length r)) W y rest (and_then (again begins_local next_local g found (z ∷ r)) After)) (sym same)
-      (track_no_turn begins_local next_local After g found (Identifier name ∷ r) (ap (λ z. begins_local (z ∷ r)) (sym same) ∙ e) (short_tracked (omega arith) (short_then (statements_name_short name r) (λ _. then_shrinks (one_shrinks _) (λ _. pure_shrinks _)))))
+    (track_no_turn begins_local next_local After g found (Identifier name ∷ r) (ap (λ z. begins_local (z ∷ r)) (sym same) ∙ e) (short_tracked (omega arith) (short_then (statements_name_short name r) (λ _. then_shrinks (one_shrinks _) (λ _. pure_shrinks _)))))
 hidden_local _ W y found rest _ _ one (longer n t w r h) e g = let known = local_known n t w r h in absurd cc
 hidden_local _ W y found rest _ _ one ended e g = absurd cc
 
@@ -207,11 +207,11 @@ module _ (n : ℕ) (W : Type 0) where
       → Along n (spell_all spell_variable_line ls (spell_body (body_of body) (Sign mark.CloseBrace ∷ rest))) s → (g : ℕ) → length s ≤ g → Tracked n W (found ++ ls, body) rest (and_then (again begins_local next_local g found s) After)
   locals_then [] found body is deep rest s h g enough =
       subst (λ z. Tracked n W (z, body) rest (and_then (again begins_local next_local g found s) After)) (sym (append-nil found))
-        (no_local n W found body is deep rest (spell_body (body_of body) (Sign mark.CloseBrace ∷ rest)) s (body_no_local body rest) h refl g enough (begins_local s) refl)
+      (no_local n W found body is deep rest (spell_body (body_of body) (Sign mark.CloseBrace ∷ rest)) s (body_no_local body rest) h refl g enough (begins_local s) refl)
   locals_then (v ∷ more) found body is deep rest s h g enough =
       one_local v found (found ++ v ∷ more, body) rest (spell_all spell_variable_line more (spell_body (body_of body) (Sign mark.CloseBrace ∷ rest))) s h g enough
-        (λ g r enough h. subst (λ z. Tracked n W (z, body) rest (and_then (again begins_local next_local g (found ++ v ∷ []) r) After)) (append_assoc found (v ∷ []) more) (locals_then more (found ++ v ∷ []) body is deep rest r h g enough))
-        (begins_local s) refl
+      (λ g r enough h. subst (λ z. Tracked n W (z, body) rest (and_then (again begins_local next_local g (found ++ v ∷ []) r) After)) (append_assoc found (v ∷ []) more) (locals_then more (found ++ v ∷ []) body is deep rest r h g enough))
+      (begins_local s) refl
 
   pub block_tracked : (ls : List CVariable) (body : List Statement) → IsBody (body_of body) → (W → body_depth (body_of body) ≤ 2400) → (rest s : List Token) → Along n (spell_block ls body rest) s → Tracked n W (ls, body) rest (block s)
   unfolding block locals repeat

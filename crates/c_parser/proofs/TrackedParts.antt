@@ -1,8 +1,8 @@
 -- The parts of a program that is a text are followed, one after the other.
-use Rattle.std.proofs.Common.{◌≡◌, ℕ, zero, suc, ◌+◌, ◌<◌, ◌≤◌, Bool, true, false, List, [], ◌∷◌, ◌++◌, length, Option, Some, None, Ok, Err, refl, sym, ap, subst, ◌∙◌, append_assoc, arith}
+use Rattle.std.proofs.Common.{◌≡◌, ℕ, ◌<◌, ◌≤◌, Bool, true, false, List, [], ◌∷◌, ◌++◌, length, Option, Some, None, Ok, refl, sym, ap, subst, ◌∙◌, append_assoc, arith}
 use Rattle.std.specs.List.{AllByRecursion}
 use Rattle.std.proofs.lemmas.List.{append-nil}
-use Rattle.c_tree.specs.Tree.{ObjectType, Int, Word, Byte, Struct, Named, VoidPointer, Pointer, Statement, body_of}
+use Rattle.c_tree.specs.Tree.{ObjectType, Int, Word, Byte, Struct, Named, VoidPointer, Pointer, body_of}
 use Rattle.c_tree.specs.declared.program.CVariable.{CVariable}
 use Rattle.c_tree.specs.declared.program.CStruct.{CStruct}
 use Rattle.c_tree.specs.declared.program.CTypedef.{CTypedef}
@@ -14,21 +14,21 @@ use Rattle.c_tree.specs.declared.program.CMain.{CMain}
 use Rattle.c_tree.specs.declared.program.CProgram.{CProgram}
 use Rattle.c_grammar.specs.declared.token.Word.TheVariants as word
 use Rattle.c_grammar.specs.declared.token.Mark.TheVariants as mark
-use Rattle.c_grammar.specs.Token.{Token, Identifier, Numeral, Quoted, Sign}
-use Rattle.c_grammar.specs.Spelling.{spell_all, spell_or_void, spell_type, spell_result, spell_body, spell_variable, spell_variable_line, spell_member, spell_forward, spell_struct, spell_typedef, spell_declaration, spell_parameters, spell_prototype, spell_block, spell_function, spell_main, program_tokens}
-use Rattle.c_grammar.specs.Grammar.{IsBody, IsStruct, IsDeclaration, IsFunction, IsMain, IsProgram}
-use Rattle.token_parsing.specs.Parser.{Parser, Outcome, and_then, one_of, begins, rest, again, repeat, either}
-use Rattle.token_parsing.proofs.Tracked.{Shrinks, Takes, Along, ended, last, longer, Tracked, one_shrinks, pure_shrinks, then_shrinks, takes_token, takes_then, takes_either, along_some, same_begins, track_first, track_second, track_then, track_pure, track_plain, track_left, track_turn, track_no_turn}
+use Rattle.c_grammar.specs.Token.{Token, Identifier, Quoted, Sign}
+use Rattle.c_grammar.specs.Spelling.{spell_all, spell_type, spell_result, spell_variable_line, spell_forward, spell_struct, spell_typedef, spell_declaration, spell_parameters, spell_prototype, spell_block, spell_function, spell_main, program_tokens}
+use Rattle.c_grammar.specs.Grammar.{IsStruct, IsDeclaration, IsFunction, IsMain, IsProgram}
+use Rattle.token_parsing.specs.Parser.{Parser, and_then, begins, rest, again, repeat}
+use Rattle.token_parsing.proofs.Tracked.{Shrinks, Takes, Along, ended, last, longer, Tracked, one_shrinks, pure_shrinks, then_shrinks, takes_token, takes_then, takes_either, along_some, same_begins, track_first, track_second, track_then, track_pure, track_turn, track_no_turn}
 use Rattle.c_parser.specs.declared.program.Parts.{Parts}
-use Rattle.c_parser.specs.Classes.{same_word, same_mark, names, words, marks, expect}
+use Rattle.c_parser.specs.Classes.{same_word, same_mark, words, marks}
 use Rattle.c_parser.specs.Types.{pointer_to, object_type, stars, result_type, after_void}
-use Rattle.c_parser.specs.Programs.{variable_of, members, typedef, parameters, block, no_functions, no_prototypes, no_globals, no_declarations, with_forward, with_declaration, with_global, with_prototype, with_function, forward, structure, type_definition, global, prototype, function, after_parameters, after_name, after_result, after_struct_name, after_struct, next_part, no_int, no_parts, parts, main_of, main, program_of, end_of, program}
+use Rattle.c_parser.specs.Programs.{typedef, block, no_functions, no_prototypes, no_globals, no_declarations, with_forward, with_declaration, with_global, with_prototype, with_function, forward, structure, type_definition, prototype, function, after_parameters, after_name, after_result, after_struct_name, after_struct, next_part, no_int, parts, main_of, main, program_of, end_of, program}
 use Rattle.c_parser.specs.Depth.{body_depth, Fits}
-use Rattle.c_parser.proofs.Shrinks.{pointer_to_shrinks, after_shrinks, typedef_ends, stars_shrinks, type_shrinks, result_shrinks, members_shrinks, typedef_shrinks, parameters_shrinks, block_shrinks, after_parameters_shrinks, after_name_shrinks, after_result_shrinks, after_struct_name_shrinks, next_part_shrinks, main_shrinks, end_shrinks}
+use Rattle.c_parser.proofs.Shrinks.{pointer_to_shrinks, after_shrinks, typedef_ends, block_shrinks, after_parameters_shrinks, after_name_shrinks, after_result_shrinks, after_struct_name_shrinks, next_part_shrinks, main_shrinks, end_shrinks}
 use Rattle.c_parser.proofs.TrackedTokens.{mark_tracked, word_tracked, name_tracked}
 use Rattle.c_parser.proofs.TrackedTypes.{NoStar, result_tracked}
 use Rattle.c_parser.proofs.TrackedLocals.{type_takes, block_tracked}
-use Rattle.c_parser.proofs.TrackedPrograms.{TypeBegun, type_begun, result_begun, members_tracked, typedef_tracked, parameters_tracked}
+use Rattle.c_parser.proofs.TrackedPrograms.{result_begun, members_tracked, typedef_tracked, parameters_tracked}
 
 -- ---- what follows a type, and types of structs
 
@@ -84,8 +84,8 @@ module _ (n : ℕ) (W : Type 0) (p : Parts) where
       track_second (begins (marks mark.Semicolon) r) _ _ (same_begins (marks mark.Semicolon) h ∙ on.semicolon) (track_second (begins (marks mark.OpenBrace) r) _ _ (same_begins (marks mark.OpenBrace) h ∙ on.brace) (k (length r) r (omega arith) h))))))
   struct_typed y rest' (Pointer of) e rest s on h k =
       struct_typed y rest' of e (Sign mark.Star ∷ rest) s (star_onward rest) h (λ g r enough h'.
-        track_turn (begins (marks mark.Star)) pointer_to (λ of. after_result p (Some of)) g of r (same_begins (marks mark.Star) h' ∙ star_next rest) enough (along_some h') (takes_token (marks mark.Star) r (λ _. pure_shrinks _)) pointer_to_shrinks after_struct_shrinks
-          (mark_tracked mark.Star h' (λ _. pure_shrinks _) (λ r h. track_pure (Pointer of) h)) k)
+      track_turn (begins (marks mark.Star)) pointer_to (λ of. after_result p (Some of)) g of r (same_begins (marks mark.Star) h' ∙ star_next rest) enough (along_some h') (takes_token (marks mark.Star) r (λ _. pure_shrinks _)) pointer_to_shrinks after_struct_shrinks
+      (mark_tracked mark.Star h' (λ _. pure_shrinks _) (λ r h. track_pure (Pointer of) h)) k)
   struct_typed y rest' Int e rest s on h k = absurd cc
   struct_typed y rest' Word e rest s on h k = absurd cc
   struct_typed y rest' Byte e rest s on h k = absurd cc
@@ -107,7 +107,7 @@ module _ (n : ℕ) (W : Type 0) (p : Parts) where
       → ((r : List Token) → Along n (Identifier name ∷ w) r → Tracked n W y rest' (after_result p (Some of) r)) → (b : Bool) → is_struct of ≡ b → Tracked n W y rest' (next_part p s)
   some_result y rest' of name w s h k true e =
       struct_typed y rest' of e (Identifier name ∷ w) s (name_onward name w) h
-        (λ g r enough h. track_no_turn (begins (marks mark.Star)) pointer_to (λ of. after_result p (Some of)) g of r (same_begins (marks mark.Star) h ∙ name_no_star name w) (k r h))
+      (λ g r enough h. track_no_turn (begins (marks mark.Star)) pointer_to (λ of. after_result p (Some of)) g of r (same_begins (marks mark.Star) h ∙ name_no_star name w) (k r h))
   some_result y rest' of name w s h k false e = plain_result y rest' (Some of) name w s (no_struct of (Identifier name ∷ w) e) h k
 
   by_result : (y : Parts) (rest' : List Token) (o : Option ObjectType) (name : List ℕ) (w s : List Token) → Along n (spell_result o (Identifier name ∷ w)) s
@@ -183,7 +183,7 @@ next_part_takes : (p : Parts) (s : List Token) → Takes (length s) (next_part p
 unfolding next_part type_definition after_struct
 next_part_takes p s =
     takes_either (length s) (begins (words word.Typedef) s) _ _
-      (takes_either (length s) (no_globals p) _ _ (takes_then (length s) (typedef s) (typedef_takes s) (λ _. pure_shrinks _)) tt)
+    (takes_either (length s) (no_globals p) _ _ (takes_then (length s) (typedef s) (typedef_takes s) (λ _. pure_shrinks _)) tt)
     (takes_either (length s) (begins (words word.Struct) s) _ _ (takes_token (words word.Struct) s (λ _. then_shrinks (one_shrinks _) (after_struct_name_shrinks p)))
     (takes_then (length s) (result_type s) (result_takes s) (after_result_shrinks p)))
 
@@ -258,11 +258,11 @@ module _ (n : ℕ) (W : Type 0) (c : CProgram) (m : CMain) (ism : IsMain m) (dee
       let p = parts_of fs ds gs ps xs in
       let same : program_of p m ≡ c = ap (λ z. program_of (parts_of fs ds gs ps z) m) (sym (append-nil xs)) ∙ e in
       track_no_turn no_int next_part Last g p s (int_steady n (spell_main m []) s h ∙ int_stops m [])
-        (track_then (main_tracked n W m [] s ism deep h) (λ m. end_shrinks (program_of p m)) (λ r h. subst (λ z. Tracked n W z [] (end_of (program_of p m) r)) same (end_tracked n W (program_of p m) r h)))
+      (track_then (main_tracked n W m [] s ism deep h) (λ m. end_shrinks (program_of p m)) (λ r h. subst (λ z. Tracked n W z [] (end_of (program_of p m) r)) same (end_tracked n W (program_of p m) r h)))
   functions_going fs ds gs ps xs (f ∷ more) is fit e g s enough h =
       let p = parts_of fs ds gs ps xs in let after = spell_all spell_function more (spell_main m []) in
       one_part p (with_function p f) after (spell_function f after) (result_part f.result _) (λ s h. function_tracked n W p f after s is.0 (λ w. (fit w).0) h)
-        (functions_going fs ds gs ps (xs ++ f ∷ []) more is.1 (λ w. (fit w).1) (ap (λ z. program_of (parts_of fs ds gs ps z) m) (append_assoc xs (f ∷ []) more) ∙ e)) g s enough h
+      (functions_going fs ds gs ps (xs ++ f ∷ []) more is.1 (λ w. (fit w).1) (ap (λ z. program_of (parts_of fs ds gs ps z) m) (append_assoc xs (f ∷ []) more) ∙ e)) g s enough h
 
   prototypes_going : (fs : List (List ℕ)) (ds : List CDeclaration) (gs : List CVariable) (ps more : List CPrototype) (xs : List CFunction)
       → ((ps : List CPrototype) → program_of (parts_of fs ds gs ps xs) m ≡ c → Going (parts_of fs ds gs ps []) (spell_all spell_function xs (spell_main m [])))
@@ -271,7 +271,7 @@ module _ (n : ℕ) (W : Type 0) (c : CProgram) (m : CMain) (ism : IsMain m) (dee
   prototypes_going fs ds gs ps (x ∷ more) xs k e =
       let p = parts_of fs ds gs ps [] in let after = spell_all spell_prototype more (spell_all spell_function xs (spell_main m [])) in
       one_part p (with_prototype p x) after (spell_prototype x after) (result_part x.result _) (λ s h. prototype_tracked n W p x after s refl h)
-        (prototypes_going fs ds gs (ps ++ x ∷ []) more xs k (ap (λ z. program_of (parts_of fs ds gs z xs) m) (append_assoc ps (x ∷ []) more) ∙ e))
+      (prototypes_going fs ds gs (ps ++ x ∷ []) more xs k (ap (λ z. program_of (parts_of fs ds gs z xs) m) (append_assoc ps (x ∷ []) more) ∙ e))
 
   -- the text of the parts after the globals
   abbrev from_prototypes : List CPrototype → List CFunction → List Token
@@ -284,7 +284,7 @@ module _ (n : ℕ) (W : Type 0) (c : CProgram) (m : CMain) (ism : IsMain m) (dee
   globals_going fs ds gs (v ∷ more) ps xs k e =
       let p = parts_of fs ds gs [] [] in let after = spell_all spell_variable_line more (from_prototypes ps xs) in
       one_part p (with_global p v) after (spell_variable_line v after) (result_part (Some v.of) _) (λ s h. global_tracked n W p v after s refl h)
-        (globals_going fs ds (gs ++ v ∷ []) more ps xs k (ap (λ z. program_of (parts_of fs ds z ps xs) m) (append_assoc gs (v ∷ []) more) ∙ e))
+      (globals_going fs ds (gs ++ v ∷ []) more ps xs k (ap (λ z. program_of (parts_of fs ds z ps xs) m) (append_assoc gs (v ∷ []) more) ∙ e))
 
   abbrev from_globals : List CVariable → List CPrototype → List CFunction → List Token
   from_globals gs ps xs = spell_all spell_variable_line gs (from_prototypes ps xs)
@@ -296,7 +296,7 @@ module _ (n : ℕ) (W : Type 0) (c : CProgram) (m : CMain) (ism : IsMain m) (dee
   declarations_going fs ds (d ∷ more) gs ps xs is k e =
       let p = parts_of fs ds [] [] [] in let after = spell_all spell_declaration more (from_globals gs ps xs) in
       one_part p (with_declaration p d) after (spell_declaration d after) (declaration_part d after) (λ s h. declaration_tracked n W p d after s is.0 refl h)
-        (declarations_going fs (ds ++ d ∷ []) more gs ps xs is.1 k (ap (λ z. program_of (parts_of fs z gs ps xs) m) (append_assoc ds (d ∷ []) more) ∙ e))
+      (declarations_going fs (ds ++ d ∷ []) more gs ps xs is.1 k (ap (λ z. program_of (parts_of fs z gs ps xs) m) (append_assoc ds (d ∷ []) more) ∙ e))
 
   abbrev from_declarations : List CDeclaration → List CVariable → List CPrototype → List CFunction → List Token
   from_declarations ds gs ps xs = spell_all spell_declaration ds (from_globals gs ps xs)
@@ -308,7 +308,7 @@ module _ (n : ℕ) (W : Type 0) (c : CProgram) (m : CMain) (ism : IsMain m) (dee
   forwards_going fs (name ∷ more) ds gs ps xs k e =
       let p = parts_of fs [] [] [] [] in let after = spell_all spell_forward more (from_declarations ds gs ps xs) in
       one_part p (with_forward p name) after (spell_forward name after) (word_part _).0 (λ s h. forward_tracked n W p name after s refl h)
-        (forwards_going (fs ++ name ∷ []) more ds gs ps xs k (ap (λ z. program_of (parts_of z ds gs ps xs) m) (append_assoc fs (name ∷ []) more) ∙ e))
+      (forwards_going (fs ++ name ∷ []) more ds gs ps xs k (ap (λ z. program_of (parts_of z ds gs ps xs) m) (append_assoc fs (name ∷ []) more) ∙ e))
 
 -- As long as the tokens are those of the program, none is refused.
 pub program_tracked : (n : ℕ) (W : Type 0) (c : CProgram) → IsProgram c → (W → Fits 2400 c) → (s : List Token) → Along n (program_tokens c) s → Tracked n W c [] (program s)
@@ -316,7 +316,7 @@ unfolding program parts repeat
 program_tracked n W c is fit s h =
     let m = c.main in let deep : W → body_depth (body_of m.body) ≤ 2400 = λ w. (fit w).1 in let ism = is.5 in
     forwards_going n W c m ism deep [] c.forwards c.declarations c.globals c.prototypes c.functions
-      (λ fs e. declarations_going n W c m ism deep fs [] c.declarations c.globals c.prototypes c.functions is.1
-        (λ ds e. globals_going n W c m ism deep fs ds [] c.globals c.prototypes c.functions
-          (λ gs e. prototypes_going n W c m ism deep fs ds gs [] c.prototypes c.functions
-            (λ ps e. functions_going n W c m ism deep fs ds gs ps [] c.functions is.4 (λ w. (fit w).0) e) e) e) e) refl (length s) s (omega arith) h
+    (λ fs e. declarations_going n W c m ism deep fs [] c.declarations c.globals c.prototypes c.functions is.1
+    (λ ds e. globals_going n W c m ism deep fs ds [] c.globals c.prototypes c.functions
+    (λ gs e. prototypes_going n W c m ism deep fs ds gs [] c.prototypes c.functions
+    (λ ps e. functions_going n W c m ism deep fs ds gs ps [] c.functions is.4 (λ w. (fit w).0) e) e) e) e) refl (length s) s (omega arith) h

@@ -1,37 +1,26 @@
 -- Declarations and programs that are texts are followed.
-use Rattle.std.proofs.Common.{◌≡◌, ◌≢◌, ℕ, zero, suc, ◌+◌, ◌<◌, ◌≤◌, Bool, true, false, List, [], ◌∷◌, ◌++◌, length, Option, Some, None, Ok, Err, refl, sym, ap, subst, ◌∙◌, append_assoc, arith}
+use Rattle.std.proofs.Common.{◌≡◌, ◌≢◌, ℕ, true, false, List, [], ◌∷◌, ◌++◌, length, Option, Some, None, Ok, refl, arith}
 use Rattle.std.specs.List.{AllByRecursion}
 use Rattle.std.specs.Option.{IfSome}
-use Rattle.std.proofs.lemmas.List.{append-nil}
-use Rattle.c_tree.specs.Tree.{ObjectType, Int, Word, Byte, Struct, Named, VoidPointer, Pointer, Statement, body_of}
+use Rattle.c_tree.specs.Tree.{ObjectType, Int, Word, Byte, Struct, Named, VoidPointer, Pointer}
 use Rattle.c_tree.specs.declared.program.CVariable.{CVariable}
 use Rattle.c_tree.specs.declared.program.CMember.{CMember}
-use Rattle.c_tree.specs.declared.program.CStruct.{CStruct}
 use Rattle.c_tree.specs.declared.program.CTypedef.{CTypedef}
-use Rattle.c_tree.specs.declared.program.CDeclaration.{CDeclaration}
-use Rattle.c_tree.specs.declared.program.CDeclaration.TheVariants as declared
-use Rattle.c_tree.specs.declared.program.CPrototype.{CPrototype}
-use Rattle.c_tree.specs.declared.program.CFunction.{CFunction}
-use Rattle.c_tree.specs.declared.program.CMain.{CMain}
-use Rattle.c_tree.specs.declared.program.CProgram.{CProgram}
 use Rattle.c_grammar.specs.declared.token.Word.TheVariants as word
 use Rattle.c_grammar.specs.declared.token.Mark.TheVariants as mark
-use Rattle.c_grammar.specs.Token.{Token, Identifier, Numeral, Quoted, Sign}
-use Rattle.c_grammar.specs.Spelling.{Spelling, spell_all, spell_next, spell_listed, spell_or_void, spell_type, spell_result, spell_body, spell_variable, spell_variable_line, spell_length, spell_member, spell_forward, spell_struct, spell_typedef, spell_declaration, spell_parameters, spell_prototype, spell_block, spell_function, spell_main, program_tokens}
-use Rattle.c_grammar.specs.Grammar.{IsNumber, IsBody, IsMember, IsStruct, IsDeclaration, IsFunction, IsMain, IsProgram}
-use Rattle.token_parsing.specs.Parser.{Parser, Outcome, and_then, one_of, begins, rest, again, repeat, either}
-use Rattle.token_parsing.proofs.Tracked.{Shrinks, Takes, Along, ended, last, longer, Tracked, meets, one_shrinks, pure_shrinks, then_shrinks, either_shrinks, repeat_shrinks, takes_token, takes_then, takes_either, along_some, same_begins, track_first, track_second, track_then, track_pure, track_plain, track_left, track_turn, track_no_turn, Item, Listing, track_list}
-use Rattle.c_parser.specs.declared.program.Parts.{Parts}
-use Rattle.c_parser.specs.Classes.{same_word, same_mark, names, words, marks, expect, expect_word}
-use Rattle.c_parser.specs.Types.{struct_type, base_type, pointer_to, object_type, stars, result_type, after_void}
+use Rattle.c_grammar.specs.Token.{Token, Identifier, Sign}
+use Rattle.c_grammar.specs.Spelling.{spell_all, spell_next, spell_or_void, spell_type, spell_result, spell_variable, spell_length, spell_member, spell_typedef, spell_parameters}
+use Rattle.c_grammar.specs.Grammar.{IsNumber, IsMember}
+use Rattle.token_parsing.specs.Parser.{and_then, begins, rest}
+use Rattle.token_parsing.proofs.Tracked.{Shrinks, Along, Tracked, one_shrinks, pure_shrinks, then_shrinks, repeat_shrinks, takes_token, takes_then, same_begins, track_first, track_second, track_then, track_pure, Item, Listing, track_list}
+use Rattle.c_parser.specs.Classes.{same_word, same_mark, words, marks, expect}
 use Rattle.c_parser.specs.Expressions.{largest_int}
 use Rattle.c_parser.specs.Statements.{no_brace}
-use Rattle.c_parser.specs.Programs.{variable_of, variable, array_length, member_of, member, next_member, members, next_type, types_after, types, typedef_of, pointer_name, typedef, next_parameter, parameters_after, parameters, block, no_functions, no_prototypes, no_globals, no_declarations, with_forward, with_declaration, with_global, with_prototype, with_function, forward, struct_of, structure, type_definition, global, prototype_of, prototype, function_of, function, after_parameters, after_name, after_result, after_struct_name, after_struct, next_part, no_int, no_parts, parts, main_of, main, program_of, end_of, program}
-use Rattle.c_parser.specs.Depth.{body_depth, Fits}
-use Rattle.c_parser.proofs.Shrinks.{pointer_to_shrinks, stars_shrinks, type_shrinks, result_shrinks, variable_shrinks, length_shrinks, member_shrinks, next_member_shrinks, members_shrinks, next_type_shrinks, types_after_shrinks, types_shrinks, pointer_name_shrinks, typedef_shrinks, next_parameter_shrinks, parameters_after_shrinks, parameters_shrinks, block_shrinks, forward_shrinks, structure_shrinks, global_shrinks, after_parameters_shrinks, after_name_shrinks, after_result_shrinks, after_struct_name_shrinks, next_part_shrinks, main_shrinks, end_shrinks}
+use Rattle.c_parser.specs.Programs.{variable_of, variable, array_length, member_of, member, next_member, members, next_type, types, typedef_of, pointer_name, typedef, next_parameter, parameters, no_int}
+use Rattle.c_parser.proofs.Shrinks.{type_shrinks, result_shrinks, variable_shrinks, length_shrinks, member_shrinks, next_member_shrinks, next_type_shrinks, types_after_shrinks, types_shrinks, next_parameter_shrinks, parameters_after_shrinks}
 use Rattle.c_parser.proofs.TrackedTokens.{mark_tracked, word_tracked, name_tracked, number_tracked}
 use Rattle.c_parser.proofs.TrackedTypes.{NoStar, type_tracked, result_tracked}
-use Rattle.c_parser.proofs.TrackedLocals.{variable_tracked, type_takes, variable_takes, block_tracked}
+use Rattle.c_parser.proofs.TrackedLocals.{variable_tracked, variable_takes}
 use Rattle.c_parser.proofs.TrackedStatements.{brace_steady}
 
 -- ---- with what a type begins
@@ -97,7 +86,7 @@ module _ (n : ℕ) (W : Type 0) where
     one_more = λ x more rest. refl;
     steady = brace_steady;
     takes = λ found s. takes_then (length s) (and_then (variable s) (λ v s. and_then (array_length s) (λ l s. and_then (expect mark.Semicolon s) (λ _ s. Ok (member_of v l, s)))))
-      (takes_then (length s) (variable s) (variable_takes s) (λ _. then_shrinks length_shrinks (λ _. then_shrinks (one_shrinks _) (λ _. pure_shrinks _)))) (λ _. pure_shrinks _);
+        (takes_then (length s) (variable s) (variable_takes s) (λ _. then_shrinks length_shrinks (λ _. then_shrinks (one_shrinks _) (λ _. pure_shrinks _)))) (λ _. pure_shrinks _);
     shrinks = next_member_shrinks;
     some = λ x rest. (type_begun x.of (Identifier x.name ∷ spell_length x.length (Sign mark.Semicolon ∷ rest))).some;
     goes = λ x rest. (type_begun x.of (Identifier x.name ∷ spell_length x.length (Sign mark.Semicolon ∷ rest))).no_brace;
@@ -113,7 +102,7 @@ module _ (n : ℕ) (W : Type 0) where
       mark_tracked mark.OpenBrace h (λ _. then_shrinks member_shrinks (λ m. then_shrinks (repeat_shrinks no_brace next_member next_member_shrinks (m ∷ [])) closing)) (λ r h.
       track_then (member_tracked m is.0 (spell_all spell_member more (Sign mark.CloseBrace ∷ Sign mark.Semicolon ∷ rest)) r h) (λ m. then_shrinks (repeat_shrinks no_brace next_member next_member_shrinks (m ∷ [])) closing) (λ r h.
       track_then (track_list n W spell_member (spell_all spell_member) no_brace next_member any_follow member_list more (member_items more is.1) (Sign mark.CloseBrace ∷ Sign mark.Semicolon ∷ rest) tt (next_facts (Sign mark.Semicolon ∷ rest)).4 (m ∷ []) r h)
-        closing (λ r h. mark_tracked mark.CloseBrace h (λ _. then_shrinks (one_shrinks _) (λ _. pure_shrinks _)) (λ r h. mark_tracked mark.Semicolon h (λ _. pure_shrinks _) (λ r h. track_pure (m ∷ more) h)))))
+      closing (λ r h. mark_tracked mark.CloseBrace h (λ _. then_shrinks (one_shrinks _) (λ _. pure_shrinks _)) (λ r h. mark_tracked mark.Semicolon h (λ _. pure_shrinks _) (λ r h. track_pure (m ∷ more) h)))))
 
   -- ---- typedefs
 
@@ -151,16 +140,16 @@ module _ (n : ℕ) (W : Type 0) where
   unfolding typedef pointer_name
   typedef_tracked t rest s h =
       let ends : (r : Option ObjectType) (m : List ℕ) (all : List ObjectType) → Shrinks {T = Token} (λ s. and_then (expect mark.Close s) (λ _ s. and_then (expect mark.Semicolon s) (λ _ s. Ok (typedef_of r m all, s)))) =
-          λ r m all. then_shrinks (one_shrinks _) (λ _. then_shrinks (one_shrinks _) (λ _. pure_shrinks _)) in
+      λ r m all. then_shrinks (one_shrinks _) (λ _. then_shrinks (one_shrinks _) (λ _. pure_shrinks _)) in
       let named : (r : Option ObjectType) (m : List ℕ) → Shrinks {T = Token} (λ s. and_then (expect mark.Open s) (λ _ s. and_then (types s) (λ all s. and_then (expect mark.Close s) (λ _ s. and_then (expect mark.Semicolon s) (λ _ s. Ok (typedef_of r m all, s)))))) =
-          λ r m. then_shrinks (one_shrinks _) (λ _. then_shrinks types_shrinks (ends r m)) in
+      λ r m. then_shrinks (one_shrinks _) (λ _. then_shrinks types_shrinks (ends r m)) in
       let after_name = Sign mark.Open ∷ spell_or_void spell_type t.parameters (Sign mark.Close ∷ Sign mark.Semicolon ∷ rest) in
       word_tracked word.Typedef h (λ _. then_shrinks result_shrinks (λ r. then_shrinks (then_shrinks (one_shrinks _) (λ _. then_shrinks (one_shrinks _) (λ _. then_shrinks (one_shrinks _) (λ m. then_shrinks (one_shrinks _) (λ _. pure_shrinks m))))) (named r))) (λ r h.
       track_then (result_tracked n W t.result (Sign mark.Open ∷ Sign mark.Star ∷ Identifier t.name ∷ Sign mark.Close ∷ after_name) r (next_facts (Sign mark.Star ∷ Identifier t.name ∷ Sign mark.Close ∷ after_name)).5 h)
-        (λ r. then_shrinks (then_shrinks (one_shrinks _) (λ _. then_shrinks (one_shrinks _) (λ _. then_shrinks (one_shrinks _) (λ m. then_shrinks (one_shrinks _) (λ _. pure_shrinks m))))) (named r)) (λ r h.
+      (λ r. then_shrinks (then_shrinks (one_shrinks _) (λ _. then_shrinks (one_shrinks _) (λ _. then_shrinks (one_shrinks _) (λ m. then_shrinks (one_shrinks _) (λ _. pure_shrinks m))))) (named r)) (λ r h.
       track_then (mark_tracked {y = t.name} {rest' = after_name} mark.Open h (λ _. then_shrinks (one_shrinks _) (λ _. then_shrinks (one_shrinks _) (λ m. then_shrinks (one_shrinks _) (λ _. pure_shrinks m)))) (λ r h.
-        mark_tracked mark.Star h (λ _. then_shrinks (one_shrinks _) (λ m. then_shrinks (one_shrinks _) (λ _. pure_shrinks m))) (λ r h.
-        name_tracked t.name h (λ m. then_shrinks (one_shrinks _) (λ _. pure_shrinks m)) (λ r h. mark_tracked mark.Close h (λ _. pure_shrinks t.name) (λ r h. track_pure t.name h))))) (named t.result) (λ r h.
+      mark_tracked mark.Star h (λ _. then_shrinks (one_shrinks _) (λ m. then_shrinks (one_shrinks _) (λ _. pure_shrinks m))) (λ r h.
+      name_tracked t.name h (λ m. then_shrinks (one_shrinks _) (λ _. pure_shrinks m)) (λ r h. mark_tracked mark.Close h (λ _. pure_shrinks t.name) (λ r h. track_pure t.name h))))) (named t.result) (λ r h.
       mark_tracked mark.Open h (λ _. then_shrinks types_shrinks (ends t.result t.name)) (λ r h.
       track_then (types_tracked t.parameters (Sign mark.Semicolon ∷ rest) r h) (ends t.result t.name) (λ r h.
       mark_tracked mark.Close h (λ _. then_shrinks (one_shrinks _) (λ _. pure_shrinks _)) (λ r h. mark_tracked mark.Semicolon h (λ _. pure_shrinks _) (λ r h. track_pure t h)))))))
@@ -197,5 +186,5 @@ module _ (n : ℕ) (W : Type 0) where
       mark_tracked mark.Open h (λ _. then_shrinks result_shrinks (λ r. then_shrinks (parameters_after_shrinks r) (λ _. then_shrinks (one_shrinks _) (λ _. pure_shrinks _)))) (λ r h.
       track_then (result_tracked n W (Some v.of) (Identifier v.name ∷ after) r (name_no_star v.name after) h) (λ r. then_shrinks (parameters_after_shrinks r) (λ _. then_shrinks (one_shrinks _) (λ _. pure_shrinks _))) (λ r h.
       track_then (name_tracked {y = v ∷ more} {rest' = Sign mark.Close ∷ rest} v.name h (λ m. repeat_shrinks (begins (marks mark.Comma)) next_parameter next_parameter_shrinks (variable_of v.of m ∷ [])) (λ r h.
-          track_list n W (spell_next spell_variable) (spell_all (spell_next spell_variable)) (begins (marks mark.Comma)) next_parameter any_follow parameter_list more (parameter_items more) (Sign mark.Close ∷ rest) tt (next_facts rest).3 (v ∷ []) r h))
-        (λ _. then_shrinks (one_shrinks _) (λ _. pure_shrinks _)) (λ r h. mark_tracked mark.Close h (λ _. pure_shrinks _) (λ r h. track_pure (v ∷ more) h))))
+      track_list n W (spell_next spell_variable) (spell_all (spell_next spell_variable)) (begins (marks mark.Comma)) next_parameter any_follow parameter_list more (parameter_items more) (Sign mark.Close ∷ rest) tt (next_facts rest).3 (v ∷ []) r h))
+      (λ _. then_shrinks (one_shrinks _) (λ _. pure_shrinks _)) (λ r h. mark_tracked mark.Close h (λ _. pure_shrinks _) (λ r h. track_pure (v ∷ more) h))))

@@ -1,30 +1,27 @@
 -- Statements of a text are followed.
-use Rattle.std.proofs.Common.{◌≡◌, ◌⊎◌, inl, inr, ℕ, zero, suc, ◌+◌, ◌<◌, ◌≤◌, max, Bool, true, false, List, [], ◌∷◌, ◌++◌, length, Option, Some, None, Ok, refl, sym, ap, subst, ◌∙◌, arith}
+use Rattle.std.proofs.Common.{◌≡◌, ◌⊎◌, inl, inr, ℕ, zero, suc, ◌<◌, ◌≤◌, Bool, true, false, List, [], ◌∷◌, ◌++◌, length, Option, Some, None, Ok, refl, sym, ap, subst, ◌∙◌, arith}
 use Rattle.std.specs.List.{AllByRecursion}
 use Rattle.std.specs.Option.{IfSome}
-use Rattle.c_tree.specs.Tree.{ObjectType, Expr, Read, Number, WordNumber, Null, Address, Unary, Binary, Cast, Place, Variable, Pointee, Member, Index, Statement, Assign, Call, Malloc, Free, GetChar, PutChar, If, IfElse, While, Goto, Label, Return, Body, Empty, Then, body_of, list_of, body_of-list_of}
-use Rattle.c_tree.specs.declared.operators.CUnary.{CUnary}
-use Rattle.c_tree.specs.declared.operators.CUnary.TheVariants as unary_
+use Rattle.c_tree.specs.Tree.{ObjectType, Expr, Read, Number, WordNumber, Null, Address, Unary, Binary, Cast, Place, Variable, Pointee, Member, Index, Statement, Assign, Call, Malloc, Free, GetChar, PutChar, If, IfElse, While, Goto, Label, Return, body_of, list_of, body_of-list_of}
 use Rattle.c_tree.specs.declared.statement.CCallee.{CCallee}
 use Rattle.c_tree.specs.declared.statement.CCallee.TheVariants.{Direct, Indirect}
 use Rattle.c_grammar.specs.declared.token.Word.{Word as QuotedWord}
 use Rattle.c_grammar.specs.declared.token.Word.TheVariants as word
 use Rattle.c_grammar.specs.declared.token.Mark.TheVariants as mark
-use Rattle.c_grammar.specs.Token.{Token, Identifier, Numeral, Quoted, Sign}
-use Rattle.c_grammar.specs.Spelling.{spell_all, spell_next, spell_listed, spell_expr, spell_place, spell_into, spell_callee, spell_value, spell_statement, spell_body, spell_type, unary_mark, binary_mark}
-use Rattle.c_grammar.specs.Grammar.{IsExpr, IsPlace, IsCallee, IsStatement, IsBody, IsObjectType}
+use Rattle.c_grammar.specs.Token.{Token, Identifier, Quoted, Sign}
+use Rattle.c_grammar.specs.Spelling.{spell_all, spell_next, spell_listed, spell_expr, spell_place, spell_callee, spell_value, spell_statement, spell_body, spell_type, binary_mark}
+use Rattle.c_grammar.specs.Grammar.{IsExpr, IsPlace, IsCallee, IsStatement, IsBody}
 use Rattle.c_grammar.proofs.Spelled.{expr_follow}
-use Rattle.token_parsing.specs.Parser.{Parser, Outcome, and_then, one_of, begins, rest, again, repeat, either}
-use Rattle.token_parsing.proofs.Tracked.{Shrinks, Short, stops_short, short_then, Takes, Along, ended, last, longer, Tracked, too_deep, one_shrinks, pure_shrinks, then_shrinks, either_shrinks, repeat_shrinks, takes_token, takes_then, takes_either, along_some, along_split, same_begins, begun_short, short_tracked, other_text, track_first, track_second, track_then, track_token, track_pure, track_plain, track_left, Item, Listing, track_list}
-use Rattle.c_parser.specs.Classes.{same_word, same_mark, names, words, marks, unaries, expect}
-use Rattle.c_parser.specs.Types.{object_type}
-use Rattle.c_parser.specs.Expressions.{begins_selector, selectors, pointee, variable, base_place, place, opened, read_variable, read_pointee, expr_by, expr}
-use Rattle.c_parser.specs.Statements.{next_argument, some_arguments, listed_arguments, call, indirect, callee, after_group, calls, malloc, get_char, value, call_into, assigned, callee_of, label_of, called, labelled, placed, free, put_char, goto, returned, return, no_brace, next_statement, statements, body, test, otherwise, conditional, while_loop, simple, statement_by, statement}
-use Rattle.c_parser.specs.Depth.{expr_depth, place_depth, into_depth, callee_depth, arguments_depth, value_depth, statement_depth, body_depth}
-use Rattle.c_parser.proofs.Shrinks.{type_shrinks, selectors_shrinks, pointee_shrinks, place_shrinks, opened_shrinks, expr_shrinks, next_argument_shrinks, arguments_shrinks, call_shrinks, callee_shrinks, malloc_shrinks, get_char_shrinks, value_shrinks, call_into_shrinks, placed_shrinks, returned_shrinks, test_shrinks, next_statement_shrinks, statements_shrinks, body_shrinks, otherwise_shrinks, statement_shrinks}
+use Rattle.token_parsing.specs.Parser.{Parser, one_of, begins, rest, either}
+use Rattle.token_parsing.proofs.Tracked.{Shrinks, Short, stops_short, short_then, Takes, Along, ended, last, longer, Tracked, too_deep, one_shrinks, pure_shrinks, then_shrinks, either_shrinks, repeat_shrinks, takes_token, takes_then, takes_either, along_split, same_begins, begun_short, short_tracked, other_text, track_first, track_second, track_then, track_pure, Item, Listing, track_list}
+use Rattle.c_parser.specs.Classes.{same_word, same_mark, names, words, marks}
+use Rattle.c_parser.specs.Expressions.{pointee, variable, base_place, place, opened, read_variable, read_pointee, expr_by, expr}
+use Rattle.c_parser.specs.Statements.{next_argument, some_arguments, listed_arguments, call, indirect, callee, after_group, calls, malloc_opening, malloc, get_char, value, call_into, assigned, callee_of, called, placed, free, put_char, goto, returned, return_with, no_brace, next_statement, statements, body, test, otherwise, conditional, while_loop, simple, statement_by, statement}
+use Rattle.c_parser.specs.Depth.{expr_depth, place_depth, callee_depth, arguments_depth, value_depth, statement_depth, body_depth}
+use Rattle.c_parser.proofs.Shrinks.{type_shrinks, selectors_shrinks, pointee_shrinks, opened_shrinks, expr_shrinks, next_argument_shrinks, arguments_shrinks, call_shrinks, malloc_shrinks, get_char_shrinks, value_shrinks, call_into_shrinks, placed_shrinks, returned_shrinks, test_shrinks, next_statement_shrinks, statements_shrinks, body_shrinks, otherwise_shrinks, statement_shrinks}
 use Rattle.c_parser.proofs.TrackedTokens.{mark_tracked, word_tracked, name_tracked}
-use Rattle.c_parser.proofs.TrackedTypes.{NoStar, type_tracked}
-use Rattle.c_parser.proofs.TrackedExpressions.{NoSelector, no_selector_mark, Starts, expr_starts, unary_no_star, ExprTracked, place_tracked, expr_tracked}
+use Rattle.c_parser.proofs.TrackedTypes.{type_tracked}
+use Rattle.c_parser.proofs.TrackedExpressions.{NoSelector, no_selector_mark, expr_starts, unary_no_star, ExprTracked, place_tracked, expr_tracked}
 use Rattle.c_parser.proofs.TrackedCalls.{expr_skipped}
 
 -- ---- what an expression does not begin with
@@ -126,10 +123,11 @@ module _ (n : ℕ) (W : Type 0) (d : ℕ) (child : Parser Token Expr) (shrinks :
   argument_items : (all : List Expr) → AllByRecursion IsExpr all → (W → arguments_depth all ≤ d) → AllByRecursion (Item n W (spell_next spell_expr) (spell_all (spell_next spell_expr)) (begins (marks mark.Comma)) (next_argument child) NoSelector) all
   unfolding next_argument
   argument_items [] is deep = tt
-  argument_items (a ∷ more) is deep =
-      (λ found rest s none h. mark_tracked mark.Comma h (λ _. then_shrinks shrinks (λ _. pure_shrinks _)) (λ r h.
+  argument_items (a ∷ more) is deep = (
+    λ found rest s none h. mark_tracked mark.Comma h (λ _. then_shrinks shrinks (λ _. pure_shrinks _)) (λ r h.
         track_then (good a is.0 (λ w. let all = deep w in grind (arith, all)) rest r none h) (λ _. pure_shrinks _) (λ r h. track_pure (found ++ a ∷ []) h)),
-      argument_items more is.1 (λ w. let all = deep w in grind (arith, all)))
+    argument_items more is.1 (λ w. let all = deep w in grind (arith, all)),
+  )
 
   after_first : (more : List Expr) (rest : List Token) → NoSelector rest → NoSelector (spell_all (spell_next spell_expr) more rest)
   after_first [] rest none = none
@@ -143,9 +141,9 @@ module _ (n : ℕ) (W : Type 0) (d : ℕ) (child : Parser Token Expr) (shrinks :
       let rest = Sign mark.Close ∷ w in
       track_second (begins (marks mark.Close) s) _ _ (same_begins (marks mark.Close) h ∙ expr_no_close a (spell_all (spell_next spell_expr) more rest))
       (track_then (good a is.0 (λ w. let all = deep w in grind (arith, all)) (spell_all (spell_next spell_expr) more rest) s (after_first more rest (no_selector_mark w).0) h)
-        (λ b. repeat_shrinks (begins (marks mark.Comma)) (next_argument child) (next_argument_shrinks child shrinks) (b ∷ [])) (λ r h.
+      (λ b. repeat_shrinks (begins (marks mark.Comma)) (next_argument child) (next_argument_shrinks child shrinks) (b ∷ [])) (λ r h.
       track_list n W (spell_next spell_expr) (spell_all (spell_next spell_expr)) (begins (marks mark.Comma)) (next_argument child) NoSelector (argument_list n W child shrinks) more
-        (argument_items more is.1 (λ w. let all = deep w in grind (arith, all))) rest (no_selector_mark w).0 (close_stops w) (a ∷ []) r h))
+      (argument_items more is.1 (λ w. let all = deep w in grind (arith, all))) rest (no_selector_mark w).0 (close_stops w) (a ∷ []) r h))
 
   call_tracked : (into : Option Place) (c : CCallee) (all : List Expr) → AllByRecursion IsExpr all → (W → arguments_depth all ≤ d) → (rest s : List Token)
       → Along n (Sign mark.Open ∷ spell_listed spell_expr all (Sign mark.Close ∷ Sign mark.Semicolon ∷ rest)) s → Tracked n W (Call into c all) rest (call child into c s)
@@ -190,7 +188,7 @@ calls_indirect a r = ap (begins (marks mark.Open)) (expr_skipped a 0 (Sign mark.
 -- what is in parentheses and is no pointee is no callee
 calls_none : (r : List Token) → begins (marks mark.Star) r ≡ false → calls (Sign mark.Open ∷ r) ≡ false
 unfolding calls begins same_mark
-calls_none r e = ap (λ b. elim b [ false ↦ false | true ↦ begins (marks mark.Open) (after_group 1 r) ]) e
+calls_none r e = ap (λ b. elim b [ false ↦ false | true ↦ begins (marks mark.Open) (after_group 0 r) ]) e
 
 module _ (W : Type 0) (d : ℕ) (child : Parser Token Expr) (shrinks : Shrinks child) (good : (n : ℕ) (V : Type 0) → ExprTracked n V d child) (taking : Taking child) (p : Place) where
   value_short : (n : ℕ) (s : List Token) → Short n (child s) → Short n (value child p s)
@@ -215,7 +213,7 @@ module _ (W : Type 0) (d : ℕ) (child : Parser Token Expr) (shrinks : Shrinks c
   no_call_seen _ y rest (Indirect a) w _ is (longer _ _ _ _ (last _ _ r)) e = short_tracked (omega arith) (value_short (suc (length r)) (Sign mark.Open ∷ Sign mark.Star ∷ r) (taking.star r))
   no_call_seen n y rest (Indirect a) w _ is (longer _ _ _ _ (longer _ _ _ s h)) e =
       by (along_split n (spell_expr a (Sign mark.Close ∷ [])) (Sign mark.Open ∷ w) s (subst (λ z. Along n z s) (expr_follow a (Sign mark.Close ∷ []) (Sign mark.Open ∷ w)) h))
-      where
+    where
       by : ((0 < n) × ((z : List Token) → Along n (spell_expr a (Sign mark.Close ∷ []) ++ z) s)) ⊎ ((r : List Token) × (s ≡ spell_expr a (Sign mark.Close ∷ []) ++ r) × Along n (Sign mark.Open ∷ w) r)
           → Tracked n W y rest (value child p (Sign mark.Open ∷ Sign mark.Star ∷ s))
       by (inl (some, any)) =
@@ -234,7 +232,7 @@ module _ (W : Type 0) (d : ℕ) (child : Parser Token Expr) (shrinks : Shrinks c
   call_of_place _ y rest (Pointee a) w _ is none (last _ _ r) e = short_tracked (omega arith) (call_open_short r)
   call_of_place n y rest (Pointee a) w _ is none (longer _ _ _ s h) e =
       by (along_split n (Sign mark.Star ∷ spell_expr a (Sign mark.Close ∷ [])) w s (subst (λ z. Along n z s) (ap (λ z. Sign mark.Star ∷ z) (expr_follow a (Sign mark.Close ∷ []) w)) h))
-      where
+    where
       by : ((0 < n) × ((z : List Token) → Along n ((Sign mark.Star ∷ spell_expr a (Sign mark.Close ∷ [])) ++ z) s)) ⊎ ((r : List Token) × (s ≡ (Sign mark.Star ∷ spell_expr a (Sign mark.Close ∷ [])) ++ r) × Along n w r)
           → Tracked n W y rest (call_into child p (Sign mark.Open ∷ s))
       by (inl (some, any)) =
@@ -343,24 +341,21 @@ module _ (n : ℕ) (W : Type 0) (d : ℕ) (child : Parser Token Expr) (shrinks :
   assign_tracked p y rest w s h k =
       track_first (begins (marks mark.Assign) s) _ _ (same_begins (marks mark.Assign) h)
       (mark_tracked mark.Assign h (λ _. either_shrinks (begins (words word.Malloc)) (malloc_shrinks child shrinks p) (either_shrinks (begins (words word.GetChar)) (get_char_shrinks child shrinks p)
-        (either_shrinks calls (call_into_shrinks child shrinks p) (value_shrinks child shrinks p)))) k)
+      (either_shrinks calls (call_into_shrinks child shrinks p) (value_shrinks child shrinks p)))) k)
 
   malloc_tracked : (p : Place) (of : ObjectType) (rest s : List Token)
       → Along n (Sign mark.Assign ∷ Quoted word.Malloc ∷ Sign mark.Open ∷ Quoted word.SizeOf ∷ Sign mark.Open ∷ spell_type of (Sign mark.Close ∷ Sign mark.Close ∷ Sign mark.Semicolon ∷ rest)) s → Tracked n W (Malloc p of) rest (placed child p s)
-  unfolding malloc begins same_word same_mark
+  unfolding malloc malloc_opening begins same_word same_mark
   malloc_tracked p of rest s h =
       assign_tracked p (Malloc p of) rest _ s h (λ r h. track_first (begins (words word.Malloc) r) _ _ (same_begins (words word.Malloc) h)
-      (word_tracked word.Malloc h (λ _. then_shrinks (one_shrinks _) (λ _. then_shrinks (one_shrinks _) (λ _. then_shrinks (one_shrinks _) (λ _. end3)))) (λ r h.
-      mark_tracked mark.Open h (λ _. then_shrinks (one_shrinks _) (λ _. then_shrinks (one_shrinks _) (λ _. end3))) (λ r h.
-      word_tracked word.SizeOf h (λ _. then_shrinks (one_shrinks _) (λ _. end3)) (λ r h.
-      mark_tracked mark.Open h (λ _. end3) (λ r h.
+      (track_then (word_tracked {y = tt} {rest' = spell_type of (Sign mark.Close ∷ Sign mark.Close ∷ Sign mark.Semicolon ∷ rest)} word.Malloc h (λ _. then_shrinks (one_shrinks _) (λ _. then_shrinks (one_shrinks _) (λ _. then_shrinks (one_shrinks _) (λ _. pure_shrinks _)))) (λ r h.
+      mark_tracked mark.Open h (λ _. then_shrinks (one_shrinks _) (λ _. then_shrinks (one_shrinks _) (λ _. pure_shrinks _))) (λ r h.
+      word_tracked word.SizeOf h (λ _. then_shrinks (one_shrinks _) (λ _. pure_shrinks _)) (λ r h. mark_tracked mark.Open h (λ _. pure_shrinks _) (λ r h. track_pure tt h)))))
+      (λ _. then_shrinks type_shrinks (λ _. then_shrinks (one_shrinks _) (λ _. then_shrinks (one_shrinks _) (λ _. then_shrinks (one_shrinks _) (λ _. pure_shrinks _))))) (λ r h.
       track_then (type_tracked n W of (Sign mark.Close ∷ Sign mark.Close ∷ Sign mark.Semicolon ∷ rest) r refl h) (λ _. then_shrinks (one_shrinks _) (λ _. then_shrinks (one_shrinks _) (λ _. then_shrinks (one_shrinks _) (λ _. pure_shrinks _)))) (λ r h.
       mark_tracked mark.Close h (λ _. then_shrinks (one_shrinks _) (λ _. then_shrinks (one_shrinks _) (λ _. pure_shrinks _))) (λ r h.
       mark_tracked mark.Close h (λ _. then_shrinks (one_shrinks _) (λ _. pure_shrinks _)) (λ r h.
-      mark_tracked mark.Semicolon h (λ _. pure_shrinks _) (λ r h. track_pure (Malloc p of) h))))))))))
-      where
-      end3 : Shrinks {T = Token} {A = Statement} (λ s. and_then (object_type s) (λ of s. and_then (expect mark.Close s) (λ _ s. and_then (expect mark.Close s) (λ _ s. and_then (expect mark.Semicolon s) (λ _ s. Ok (Malloc p of, s))))))
-      end3 = then_shrinks type_shrinks (λ _. then_shrinks (one_shrinks _) (λ _. then_shrinks (one_shrinks _) (λ _. then_shrinks (one_shrinks _) (λ _. pure_shrinks _))))
+      mark_tracked mark.Semicolon h (λ _. pure_shrinks _) (λ r h. track_pure (Malloc p of) h)))))))
 
   get_char_tracked : (p : Place) (rest s : List Token) → Along n (Sign mark.Assign ∷ Quoted word.GetChar ∷ Sign mark.Open ∷ Sign mark.Close ∷ Sign mark.Semicolon ∷ rest) s → Tracked n W (GetChar p) rest (placed child p s)
   unfolding get_char begins same_word
@@ -438,7 +433,7 @@ module _ (n : ℕ) (W : Type 0) (d : ℕ) (child : Parser Token Expr) (shrinks :
       (track_then (good n W a is deep (Sign mark.Semicolon ∷ rest) s (no_selector_mark rest).2 h) (λ _. pure_shrinks _) (λ r h. track_pure (Some a) h))
 
   return_tracked : (a : Option Expr) → IfSome a IsExpr → (W → value_depth a ≤ d) → (rest s : List Token) → Along n (spell_statement (Return a) rest) s → Tracked n W (Return a) rest (simple child s)
-  unfolding simple return begins same_word
+  unfolding simple return_with begins same_word
   return_tracked a is deep rest s h =
       track_second (begins (words word.Free) s) _ _ (same_begins (words word.Free) h) (track_second (begins (words word.PutChar) s) _ _ (same_begins (words word.PutChar) h) (track_second (begins (words word.Goto) s) _ _ (same_begins (words word.Goto) h)
       (track_first (begins (words word.Return) s) _ _ (same_begins (words word.Return) h)
@@ -468,9 +463,10 @@ module _ (n : ℕ) (W : Type 0) (d : ℕ) (child : Parser Token Expr) (shrinks :
         → AllByRecursion (Item n W spell_statement (λ all. spell_body (body_of all)) no_brace (next_statement inside) NoElse) all
     unfolding next_statement
     statement_items [] is deep = tt
-    statement_items (a ∷ more) is deep =
-        (λ found rest s none h. track_then (good' a is.0 (λ w. let all = deep w in grind (arith, all)) rest s none h) (λ _. pure_shrinks _) (λ r h. track_pure (found ++ a ∷ []) h),
-        statement_items more is.1 (λ w. let all = deep w in grind (arith, all)))
+    statement_items (a ∷ more) is deep = (
+      λ found rest s none h. track_then (good' a is.0 (λ w. let all = deep w in grind (arith, all)) rest s none h) (λ _. pure_shrinks _) (λ r h. track_pure (found ++ a ∷ []) h),
+      statement_items more is.1 (λ w. let all = deep w in grind (arith, all)),
+    )
 
     pub statements_tracked : (all : List Statement) → IsBody (body_of all) → (W → body_depth (body_of all) ≤ d) → (rest s : List Token) → Along n (spell_body (body_of all) (Sign mark.CloseBrace ∷ rest)) s
         → Tracked n W all (Sign mark.CloseBrace ∷ rest) (statements inside s)
@@ -498,7 +494,7 @@ module _ (n : ℕ) (W : Type 0) (d : ℕ) (child : Parser Token Expr) (shrinks :
     unfolding conditional
     headed_tracked y rest a all isa isb deep deep' w s h k =
         let ends : (a : Expr) (all : List Statement) → Shrinks (either (begins (words word.Else)) (otherwise inside a all) (λ s. Ok (If a (body_of all), s))) =
-            λ a all. either_shrinks (begins (words word.Else)) (otherwise_shrinks child shrinks inside shrinks' a all) (pure_shrinks (If a (body_of all))) in
+        λ a all. either_shrinks (begins (words word.Else)) (otherwise_shrinks child shrinks inside shrinks' a all) (pure_shrinks (If a (body_of all))) in
         word_tracked word.If h (λ _. then_shrinks (test_shrinks child shrinks) (λ a. then_shrinks (body_shrinks child shrinks inside shrinks') (ends a))) (λ r h.
         track_then (test_tracked a isa deep (Sign mark.OpenBrace ∷ spell_body (body_of all) (Sign mark.CloseBrace ∷ w)) r h) (λ a. then_shrinks (body_shrinks child shrinks inside shrinks') (ends a)) (λ r h.
         track_then (body_tracked all isb deep' w r h) (ends a) k))
@@ -507,7 +503,7 @@ module _ (n : ℕ) (W : Type 0) (d : ℕ) (child : Parser Token Expr) (shrinks :
         → Along n (spell_statement (If a (body_of all)) rest) s → Tracked n W (If a (body_of all)) rest (conditional child inside s)
     if_tracked a all isa isb deep rest s none h =
         headed_tracked (If a (body_of all)) rest a all isa isb (λ w. let all = deep w in grind (arith, all)) (λ w. let all = deep w in grind (arith, all)) rest s h
-          (λ r h. track_second (begins (words word.Else) r) _ _ (same_begins (words word.Else) h ∙ none) (track_pure (If a (body_of all)) h))
+        (λ r h. track_second (begins (words word.Else) r) _ _ (same_begins (words word.Else) h ∙ none) (track_pure (If a (body_of all)) h))
 
     if_else_tracked : (a : Expr) (all more : List Statement) → IsExpr a → IsBody (body_of all) → IsBody (body_of more) → (W → statement_depth (IfElse a (body_of all) (body_of more)) ≤ suc d) → (rest s : List Token)
         → Along n (spell_statement (IfElse a (body_of all) (body_of more)) rest) s → Tracked n W (IfElse a (body_of all) (body_of more)) rest (conditional child inside s)
@@ -515,9 +511,9 @@ module _ (n : ℕ) (W : Type 0) (d : ℕ) (child : Parser Token Expr) (shrinks :
     if_else_tracked a all more isa isb isc deep rest s h =
         let y = IfElse a (body_of all) (body_of more) in
         headed_tracked y rest a all isa isb (λ w. let all = deep w in grind (arith, all)) (λ w. let all = deep w in grind (arith, all)) (Quoted word.Else ∷ Sign mark.OpenBrace ∷ spell_body (body_of more) (Sign mark.CloseBrace ∷ rest)) s h
-          (λ r h. track_first (begins (words word.Else) r) _ _ (same_begins (words word.Else) h)
-            (word_tracked word.Else h (λ _. then_shrinks (body_shrinks child shrinks inside shrinks') (λ more. pure_shrinks (IfElse a (body_of all) (body_of more)))) (λ r h.
-            track_then (body_tracked more isc (λ w. let all = deep w in grind (arith, all)) rest r h) (λ more. pure_shrinks (IfElse a (body_of all) (body_of more))) (λ r h. track_pure y h))))
+        (λ r h. track_first (begins (words word.Else) r) _ _ (same_begins (words word.Else) h)
+        (word_tracked word.Else h (λ _. then_shrinks (body_shrinks child shrinks inside shrinks') (λ more. pure_shrinks (IfElse a (body_of all) (body_of more)))) (λ r h.
+        track_then (body_tracked more isc (λ w. let all = deep w in grind (arith, all)) rest r h) (λ more. pure_shrinks (IfElse a (body_of all) (body_of more))) (λ r h. track_pure y h))))
 
     while_tracked : (a : Expr) (all : List Statement) → IsExpr a → IsBody (body_of all) → (W → statement_depth (While a (body_of all)) ≤ suc d) → (rest s : List Token)
         → Along n (spell_statement (While a (body_of all)) rest) s → Tracked n W (While a (body_of all)) rest (while_loop child inside s)
@@ -525,7 +521,7 @@ module _ (n : ℕ) (W : Type 0) (d : ℕ) (child : Parser Token Expr) (shrinks :
     while_tracked a all isa isb deep rest s h =
         word_tracked word.While h (λ _. then_shrinks (test_shrinks child shrinks) (λ a. then_shrinks (body_shrinks child shrinks inside shrinks') (λ all. pure_shrinks (While a (body_of all))))) (λ r h.
         track_then (test_tracked a isa (λ w. let all = deep w in grind (arith, all)) (Sign mark.OpenBrace ∷ spell_body (body_of all) (Sign mark.CloseBrace ∷ rest)) r h)
-          (λ a. then_shrinks (body_shrinks child shrinks inside shrinks') (λ all. pure_shrinks (While a (body_of all)))) (λ r h.
+        (λ a. then_shrinks (body_shrinks child shrinks inside shrinks') (λ all. pure_shrinks (While a (body_of all)))) (λ r h.
         track_then (body_tracked all isb (λ w. let all = deep w in grind (arith, all)) rest r h) (λ all. pure_shrinks (While a (body_of all))) (λ r h. track_pure (While a (body_of all)) h)))
 
     -- a statement that is no `if` and no `while`
@@ -558,16 +554,16 @@ module _ (n : ℕ) (W : Type 0) (d : ℕ) (child : Parser Token Expr) (shrinks :
     statement_by_tracked : StatementTracked n W (suc d) (statement_by child inside)
     statement_by_tracked (Assign p a) is deep rest s none h =
         by_place_there p is.0 (λ w. let all = deep w in grind (arith, all)) (Assign p a) rest (Sign mark.Assign ∷ spell_expr a (Sign mark.Semicolon ∷ rest)) s (no_selector_mark _).4 h
-          (λ r h. value_there p a is.1 (λ w. let all = deep w in grind (arith, all)) rest r h)
+        (λ r h. value_there p a is.1 (λ w. let all = deep w in grind (arith, all)) rest r h)
     statement_by_tracked (Call (Some p) c all) is deep rest s none h =
         by_place_there p is.0 (λ w. let all = deep w in grind (arith, all)) (Call (Some p) c all) rest (Sign mark.Assign ∷ spell_callee c (Sign mark.Open ∷ spell_listed spell_expr all (Sign mark.Close ∷ Sign mark.Semicolon ∷ rest))) s (no_selector_mark _).4 h
-          (λ r h. call_there p c all is.1 (λ w. let all = deep w in grind (arith, all)) is.2 (λ w. let all = deep w in grind (arith, all)) rest r h)
+        (λ r h. call_there p c all is.1 (λ w. let all = deep w in grind (arith, all)) is.2 (λ w. let all = deep w in grind (arith, all)) rest r h)
     statement_by_tracked (Call None (Direct name) all) is deep rest s none h =
         by_place_there (Variable name) is.1 (λ w. omega arith) (Call None (Direct name) all) rest (Sign mark.Open ∷ spell_listed spell_expr all (Sign mark.Close ∷ Sign mark.Semicolon ∷ rest)) s (no_selector_mark _).5 h
-          (λ r h. plain_call (Variable name) (Direct name) all refl is.2 (λ w. let all = deep w in grind (arith, all)) rest r h)
+        (λ r h. plain_call (Variable name) (Direct name) all refl is.2 (λ w. let all = deep w in grind (arith, all)) rest r h)
     statement_by_tracked (Call None (Indirect a) all) is deep rest s none h =
         by_place_there (Pointee a) is.1 (λ w. let all = deep w in grind (arith, all)) (Call None (Indirect a) all) rest (Sign mark.Open ∷ spell_listed spell_expr all (Sign mark.Close ∷ Sign mark.Semicolon ∷ rest)) s (no_selector_mark _).5 h
-          (λ r h. plain_call (Pointee a) (Indirect a) all refl is.2 (λ w. let all = deep w in grind (arith, all)) rest r h)
+        (λ r h. plain_call (Pointee a) (Indirect a) all refl is.2 (λ w. let all = deep w in grind (arith, all)) rest r h)
     statement_by_tracked (Malloc p of) is deep rest s none h =
         by_place_there p is.0 (λ w. let all = deep w in omega (arith, all)) (Malloc p of) rest _ s (no_selector_mark _).4 h (λ r h. malloc_tracked p of rest r h)
     statement_by_tracked (GetChar p) is deep rest s none h =
@@ -588,7 +584,7 @@ module _ (n : ℕ) (W : Type 0) (d : ℕ) (child : Parser Token Expr) (shrinks :
         subst (λ b. There (If a b) rest s) (body_of-list_of b) (λ is deep h. is_if _ rest _ s h (if_tracked a (list_of b) is.0 is.1 deep rest s none h)) is deep h
     statement_by_tracked (IfElse a b c) is deep rest s none h =
         subst (λ b. There (IfElse a b c) rest s) (body_of-list_of b) (subst (λ c. There (IfElse a (body_of (list_of b)) c) rest s) (body_of-list_of c)
-          (λ is deep h. is_if _ rest _ s h (if_else_tracked a (list_of b) (list_of c) is.0 is.1 is.2 deep rest s h))) is deep h
+        (λ is deep h. is_if _ rest _ s h (if_else_tracked a (list_of b) (list_of c) is.0 is.1 is.2 deep rest s h))) is deep h
     statement_by_tracked (While a b) is deep rest s none h =
         subst (λ b. There (While a b) rest s) (body_of-list_of b) (λ is deep h. is_while _ rest _ s h (while_tracked a (list_of b) is.0 is.1 deep rest s h)) is deep h
 
@@ -615,7 +611,7 @@ module _ (child : Parser Token Expr) (shrinks : Shrinks child) (s : List Token) 
       (takes_either (length s) (begins names s) _ _ (takes_token names s (λ _. pure_shrinks _)) (takes_token (marks mark.Open) s (λ _. pointee_shrinks child shrinks))) (selectors_shrinks child shrinks)
 
   simple_takes : Takes (length s) (simple child s)
-  unfolding simple free put_char goto return
+  unfolding simple free put_char goto return_with
   simple_takes =
       takes_either (length s) (begins (words word.Free) s) _ _ (takes_token (words word.Free) s (λ _. then_shrinks (one_shrinks _) (λ _. then_shrinks shrinks (λ _. then_shrinks (one_shrinks _) (λ _. then_shrinks (one_shrinks _) (λ _. pure_shrinks _))))))
       (takes_either (length s) (begins (words word.PutChar) s) _ _ (takes_token (words word.PutChar) s (λ _. then_shrinks (one_shrinks _) (λ _. then_shrinks shrinks (λ _. then_shrinks (one_shrinks _) (λ _. then_shrinks (one_shrinks _) (λ _. pure_shrinks _))))))
@@ -627,11 +623,11 @@ module _ (child : Parser Token Expr) (shrinks : Shrinks child) (s : List Token) 
   unfolding statement_by conditional while_loop
   statement_by_takes inside shrinks' =
       takes_either (length s) (begins (words word.If) s) _ _
-        (takes_token (words word.If) s (λ _. then_shrinks (test_shrinks child shrinks) (λ a. then_shrinks (body_shrinks child shrinks inside shrinks')
-          (λ all. either_shrinks (begins (words word.Else)) (otherwise_shrinks child shrinks inside shrinks' a all) (pure_shrinks (If a (body_of all)))))))
+      (takes_token (words word.If) s (λ _. then_shrinks (test_shrinks child shrinks) (λ a. then_shrinks (body_shrinks child shrinks inside shrinks')
+      (λ all. either_shrinks (begins (words word.Else)) (otherwise_shrinks child shrinks inside shrinks' a all) (pure_shrinks (If a (body_of all)))))))
       (takes_either (length s) (begins (words word.While) s) _ _
-        (takes_token (words word.While) s (λ _. then_shrinks (test_shrinks child shrinks) (λ a. then_shrinks (body_shrinks child shrinks inside shrinks') (λ all. pure_shrinks (While a (body_of all))))))
-        simple_takes)
+      (takes_token (words word.While) s (λ _. then_shrinks (test_shrinks child shrinks) (λ a. then_shrinks (body_shrinks child shrinks inside shrinks') (λ all. pure_shrinks (While a (body_of all))))))
+      simple_takes)
 
 pub statement_takes : (d : ℕ) (s : List Token) → Takes (length s) (statement d s)
 unfolding statement

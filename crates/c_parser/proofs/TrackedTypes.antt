@@ -1,11 +1,11 @@
 -- Types and casts of a text are followed.
-use Rattle.std.proofs.Common.{◌≡◌, ℕ, zero, suc, ◌≤◌, Bool, true, false, List, [], ◌∷◌, length, Option, Some, None, Ok, refl, ◌∙◌, arith}
+use Rattle.std.proofs.Common.{◌≡◌, ℕ, ◌≤◌, false, List, ◌∷◌, length, Option, Some, None, Ok, refl, ◌∙◌, arith}
 use Rattle.c_tree.specs.Tree.{ObjectType, Int, Word, Byte, Struct, Named, VoidPointer, Pointer}
 use Rattle.c_tree.specs.declared.operators.CCast.{CCast}
 use Rattle.c_tree.specs.declared.operators.CCast.TheVariants as cast_
 use Rattle.c_grammar.specs.declared.token.Word.TheVariants as word
 use Rattle.c_grammar.specs.declared.token.Mark.TheVariants as mark
-use Rattle.c_grammar.specs.Token.{Token, Identifier, Quoted, Sign}
+use Rattle.c_grammar.specs.Token.{Token, Sign}
 use Rattle.c_grammar.specs.Spelling.{spell_type, spell_result, spell_cast}
 use Rattle.token_parsing.specs.Parser.{Parser, Outcome, and_then, begins, again, repeat}
 use Rattle.token_parsing.proofs.Tracked.{Shrinks, Along, Tracked, one_shrinks, pure_shrinks, then_shrinks, takes_token, along_some, same_begins, track_first, track_second, track_then, track_token, track_pure, track_plain, track_left, track_turn, track_no_turn}
@@ -59,8 +59,8 @@ module _ (n : ℕ) (W : Type 0) where
   unfolding stars repeat pointer_to begins same_mark
   type_by_base f shrinks whole base (Pointer of) rest s h k =
       type_by_base f shrinks whole base of (Sign mark.Star ∷ rest) s h (λ g r enough h'.
-        track_turn (begins (marks mark.Star)) pointer_to f g of r (same_begins (marks mark.Star) h') enough (along_some h') (takes_token (marks mark.Star) r (λ _. pure_shrinks _)) pointer_to_shrinks shrinks
-          (mark_tracked mark.Star h' (λ _. pure_shrinks _) (λ r h. track_pure (Pointer of) h)) k)
+      track_turn (begins (marks mark.Star)) pointer_to f g of r (same_begins (marks mark.Star) h') enough (along_some h') (takes_token (marks mark.Star) r (λ _. pure_shrinks _)) pointer_to_shrinks shrinks
+      (mark_tracked mark.Star h' (λ _. pure_shrinks _) (λ r h. track_pure (Pointer of) h)) k)
   type_by_base f shrinks whole base Int rest s h k = base Int tt rest s h (λ r h. k (length r) r (omega arith) h)
   type_by_base f shrinks whole base Word rest s h k = base Word tt rest s h (λ r h. k (length r) r (omega arith) h)
   type_by_base f shrinks whole base Byte rest s h k = base Byte tt rest s h (λ r h. k (length r) r (omega arith) h)
@@ -75,8 +75,8 @@ module _ (n : ℕ) (W : Type 0) where
   unfolding object_type
   type_tracked of rest s none h =
       type_by_base {y = of} {rest' = rest} (λ of s. Ok (of, s)) (λ of. pure_shrinks of) (λ s. and_then (base_type s) stars)
-        (λ b is rest s h k. track_then (base_tracked b is rest s h) stars_shrinks (λ r h. track_plain (stars b r) (k r h))) of rest s h
-        (no_stars of (λ of s. Ok (of, s)) of rest none (λ r h. track_pure of h))
+      (λ b is rest s h k. track_then (base_tracked b is rest s h) stars_shrinks (λ r h. track_plain (stars b r) (k r h))) of rest s h
+      (no_stars of (λ of s. Ok (of, s)) of rest none (λ r h. track_pure of h))
 
   some_base : (y : Option ObjectType) (rest' : List Token) (of : ObjectType) → IsBase of → (rest s : List Token) → Along n (spell_type of rest) s
       → ((r : List Token) → Along n rest r → Tracked n W y rest' (and_then (stars of r) (λ of s. Ok (Some of, s)))) → Tracked n W y rest' (and_then (object_type s) (λ of s. Ok (Some of, s)))
@@ -104,7 +104,7 @@ module _ (n : ℕ) (W : Type 0) where
       track_second (begins (marks mark.Star) r) _ _ (same_begins (marks mark.Star) h ∙ none) (track_pure None h)))
   result_tracked (Some of) rest s none h =
       type_by_base {y = Some of} {rest' = rest} (λ of s. Ok (Some of, s)) (λ of. pure_shrinks (Some of)) result_type (result_base (Some of) rest) of rest s h
-        (no_stars (Some of) (λ of s. Ok (Some of, s)) of rest none (λ r h. track_pure (Some of) h))
+      (no_stars (Some of) (λ of s. Ok (Some of, s)) of rest none (λ r h. track_pure (Some of) h))
 
   pub cast_tracked : (to : CCast) (rest s : List Token) → Along n (spell_cast to rest) s → Tracked n W to rest (cast_type s)
   unfolding cast_type struct_pointer void_cast begins same_word same_mark

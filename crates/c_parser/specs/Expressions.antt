@@ -1,7 +1,6 @@
 -- Expressions and places are read. Only what may nest takes the number of levels that are left.
-use Rattle.std.specs.Prelude.{ℕ, zero, suc, Bool, true, false, List, Option}
+use Rattle.std.specs.Prelude.{ℕ, zero, suc, Bool, true, false, List}
 use Rattle.c_tree.specs.Tree.{Expr, Read, Number, WordNumber, Null, Address, Unary, Binary, Cast, Place, Variable, Pointee, Member, Index}
-use Rattle.c_tree.specs.declared.operators.CUnary.{CUnary}
 use Rattle.c_grammar.specs.declared.token.Word.TheVariants as word
 use Rattle.c_grammar.specs.declared.token.Mark.TheVariants as mark
 use Rattle.c_grammar.specs.Token.{Token}
@@ -83,9 +82,9 @@ begins_cast s = elim (begins (marks mark.Open) s) [ true ↦ begins cast_words (
 unfoldable pub opened : Parser Token Expr → Parser Token Expr
 opened expr =
     either (begins (marks mark.Star)) (read_pointee expr)
-      (either (begins (marks mark.Ampersand)) (address expr)
-        (either (begins unaries) (unary expr)
-          (either begins_cast (cast expr) (binary expr))))
+    (either (begins (marks mark.Ampersand)) (address expr)
+    (either (begins unaries) (unary expr)
+    (either begins_cast (cast expr) (binary expr))))
 
 -- ---- expressions
 
@@ -96,9 +95,9 @@ read_variable expr = variable >>= λ p. selectors expr p >>= λ q. pure (Read q)
 unfoldable pub expr_by : Parser Token Expr → Parser Token Expr
 expr_by expr =
     either (begins names) (read_variable expr)
-      (either (begins (marks mark.Open)) (expect mark.Open >>= λ _. opened expr)
-        (either (begins (words word.Int64)) number
-          (either (begins (words word.Uint64)) word_number null)))
+    (either (begins (marks mark.Open)) (expect mark.Open >>= λ _. opened expr)
+    (either (begins (words word.Int64)) number
+    (either (begins (words word.Uint64)) word_number null)))
 
 -- with so many levels left
 unfoldable pub expr : ℕ → Parser Token Expr

@@ -5,7 +5,7 @@ use Rattle.c_tree.specs.declared.statement.CCallee.{CCallee}
 use Rattle.c_tree.specs.declared.statement.CCallee.TheVariants.{Direct, Indirect}
 use Rattle.c_grammar.specs.declared.token.Word.TheVariants as word
 use Rattle.c_grammar.specs.declared.token.Mark.TheVariants as mark
-use Rattle.c_grammar.specs.Token.{Token, Identifier, Numeral, Quoted, Sign}
+use Rattle.c_grammar.specs.Token.{Token}
 use Rattle.token_parsing.specs.Parser.{Parser, ◌>>=◌, pure, refuse, stop, one_of, begins, rest, either, repeat}
 use Rattle.c_parser.specs.Classes.{names, words, marks, expect, expect_word}
 use Rattle.c_parser.specs.Types.{object_type}
@@ -35,29 +35,28 @@ indirect expr = expect mark.Open >>= λ _. expect mark.Star >>= λ _. expr >>= �
 unfoldable pub callee : Parser Token Expr → Parser Token CCallee
 callee expr = either (begins names) (one_of names >>= λ n. pure (Direct n)) (indirect expr)
 
--- What is after the parentheses, of which so many are open.
+-- What is after the parenthesis that closes a group, in which so many groups are open.
 unfoldable pub after_group : ℕ → List Token → List Token
 after_group n [] = []
-after_group n (Identifier a ∷ s) = after_group n s
-after_group n (Numeral a ∷ s) = after_group n s
-after_group n (Quoted w ∷ s) = after_group n s
-after_group n (Sign mark.Open ∷ s) = after_group (suc n) s
-after_group zero (Sign mark.Close ∷ s) = []
-after_group (suc zero) (Sign mark.Close ∷ s) = s
-after_group (suc (suc n)) (Sign mark.Close ∷ s) = after_group (suc n) s
-after_group n (Sign m ∷ s) = after_group n s
+after_group n (t ∷ s) =
+    elim (begins (marks mark.Open) (t ∷ s)) [ true ↦ after_group (suc n) s | false ↦ elim (begins (marks mark.Close) (t ∷ s)) [ true ↦ elim n [ zero ↦ s | suc m ↦ after_group m s ] | false ↦ after_group n s ] ]
 
 -- after a callee stands an opening parenthesis
 unfoldable pub calls : List Token → Bool
-calls s = elim (begins names s) [ true ↦ begins (marks mark.Open) (rest s) | false ↦
-    elim (begins (marks mark.Open) s) [ false ↦ false | true ↦ elim (begins (marks mark.Star) (rest s)) [ false ↦ false | true ↦ begins (marks mark.Open) (after_group 1 (rest s)) ] ] ]
+calls s = elim (begins names s) [
+  | true ↦ begins (marks mark.Open) (rest s)
+  | false ↦
+      elim (begins (marks mark.Open) s) [ false ↦ false | true ↦ elim (begins (marks mark.Star) (rest s)) [ false ↦ false | true ↦ begins (marks mark.Open) (after_group 0 (rest s)) ] ]
+]
 
 -- ---- assignments
 
+-- "malloc" "(" "sizeof" "("
+unfoldable pub malloc_opening : Parser Token (Unit {0})
+malloc_opening = expect_word word.Malloc >>= λ _. expect mark.Open >>= λ _. expect_word word.SizeOf >>= λ _. expect mark.Open >>= λ _. pure tt
+
 unfoldable pub malloc : Place → Parser Token Statement
-malloc p =
-    expect_word word.Malloc >>= λ _. expect mark.Open >>= λ _. expect_word word.SizeOf >>= λ _. expect mark.Open >>= λ _. object_type >>= λ of.
-    expect mark.Close >>= λ _. expect mark.Close >>= λ _. expect mark.Semicolon >>= λ _. pure (Malloc p of)
+malloc p = malloc_opening >>= λ _. object_type >>= λ of. expect mark.Close >>= λ _. expect mark.Close >>= λ _. expect mark.Semicolon >>= λ _. pure (Malloc p of)
 
 unfoldable pub get_char : Place → Parser Token Statement
 get_char p = expect_word word.GetChar >>= λ _. expect mark.Open >>= λ _. expect mark.Close >>= λ _. expect mark.Semicolon >>= λ _. pure (GetChar p)
@@ -71,8 +70,8 @@ call_into expr p = callee expr >>= λ c. call expr (Some p) c
 unfoldable pub assigned : Parser Token Expr → Place → Parser Token Statement
 assigned expr p = expect mark.Assign >>= λ _.
     either (begins (words word.Malloc)) (malloc p)
-      (either (begins (words word.GetChar)) (get_char p)
-        (either calls (call_into expr p) (value expr p)))
+    (either (begins (words word.GetChar)) (get_char p)
+    (either calls (call_into expr p) (value expr p)))
 
 -- ---- what begins with a place
 
@@ -114,8 +113,8 @@ goto = expect_word word.Goto >>= λ _. one_of names >>= λ l. expect mark.Semico
 unfoldable pub returned : Parser Token Expr → Parser Token (Option Expr)
 returned expr = either (begins (marks mark.Semicolon)) (pure None) (expr >>= λ a. pure (Some a))
 
-unfoldable pub return : Parser Token Expr → Parser Token Statement
-return expr = expect_word word.Return >>= λ _. returned expr >>= λ a. expect mark.Semicolon >>= λ _. pure (Return a)
+unfoldable pub return_with : Parser Token Expr → Parser Token Statement
+return_with expr = expect_word word.Return >>= λ _. returned expr >>= λ a. expect mark.Semicolon >>= λ _. pure (Return a)
 
 -- ---- statements with bodies
 
@@ -150,9 +149,9 @@ while_loop expr statement = expect_word word.While >>= λ _. test expr >>= λ a.
 unfoldable pub simple : Parser Token Expr → Parser Token Statement
 simple expr =
     either (begins (words word.Free)) (free expr)
-      (either (begins (words word.PutChar)) (put_char expr)
-        (either (begins (words word.Goto)) goto
-          (either (begins (words word.Return)) (return expr) (place expr >>= placed expr))))
+    (either (begins (words word.PutChar)) (put_char expr)
+    (either (begins (words word.Goto)) goto
+    (either (begins (words word.Return)) (return_with expr) (place expr >>= placed expr))))
 
 unfoldable pub statement_by : Parser Token Expr → Parser Token Statement → Parser Token Statement
 statement_by expr statement = either (begins (words word.If)) (conditional expr statement) (either (begins (words word.While)) (while_loop expr statement) (simple expr))

@@ -1,6 +1,6 @@
 -- Types and casts are read.
-use Rattle.std.specs.Prelude.{ℕ, List, Option, Some, None}
-use Rattle.c_tree.specs.Tree.{ObjectType, Int, Word, Byte, Struct, Named, VoidPointer, Pointer}
+use Rattle.std.specs.Prelude.{Option, Some, None}
+use Rattle.c_tree.specs.Tree.{ObjectType, Byte, Struct, Named, VoidPointer, Pointer}
 use Rattle.c_tree.specs.declared.operators.CCast.{CCast}
 use Rattle.c_tree.specs.declared.operators.CCast.TheVariants as cast
 use Rattle.c_grammar.specs.declared.token.Word.TheVariants as word
@@ -25,9 +25,9 @@ void_pointer = expect_word word.Void >>= λ _. expect mark.Star >>= λ _. pure V
 unfoldable pub base_type : Parser Token ObjectType
 base_type =
     either (begins names) (one_of names >>= λ n. pure (Named n))
-      (either (begins (words word.Struct)) struct_type
-        (either (begins (words word.Unsigned)) byte_type
-          (either (begins (words word.Void)) void_pointer (one_of scalars >>= λ of. pure of))))
+    (either (begins (words word.Struct)) struct_type
+    (either (begins (words word.Unsigned)) byte_type
+    (either (begins (words word.Void)) void_pointer (one_of scalars >>= λ of. pure of))))
 
 unfoldable pub pointer_to : ObjectType → Parser Token ObjectType
 pointer_to of = expect mark.Star >>= λ _. pure (Pointer of)

@@ -5,7 +5,7 @@ ghost use Rattle.std.specs.Str.Parse.{digits_value};
 ghost use Rattle.c_grammar.specs.Seen.{tokens_of};
 ghost use Rattle.c_parser.specs.Classes.{same_word, same_mark, if_true};
 ghost use Rattle.c_parser.specs.Classes as spec;
-ghost use Rattle.token_parsing.specs.Parser.{Gives, begins, one_of};
+ghost use Rattle.token_parsing.specs.Parser.{Gives, begins, one_of, rest};
 
 use c_grammar::token::{CToken, Mark, Word};
 use c_tree::Name;
@@ -67,9 +67,9 @@ pub fn expect<'a>(tokens: &'a [CToken<'a>], wanted: Mark) -> Result<&'a [CToken<
     ensures { Gives (λ x. (tt, tokens_of x.now)) result (spec.expect wanted (tokens_of tokens.now)) }
 {
     match tokens {
-        [CToken::Sign(found), after @ ..] => {
+        [CToken::Sign(found), behind @ ..] => {
             if are_same_marks(*found, wanted) {
-                Ok(after)
+                Ok(behind)
             } else {
                 Err(unexpected(tokens))
             }
@@ -80,13 +80,16 @@ pub fn expect<'a>(tokens: &'a [CToken<'a>], wanted: Mark) -> Result<&'a [CToken<
 
 /// The tokens after this word.
 #[tactic(auto, unfolding(token_parsing::specs::Parser::one_of))]
-pub fn expect_word<'a>(tokens: &'a [CToken<'a>], wanted: Word) -> Result<&'a [CToken<'a>], ParseError>
+pub fn expect_word<'a>(
+    tokens: &'a [CToken<'a>],
+    wanted: Word,
+) -> Result<&'a [CToken<'a>], ParseError>
     ensures { Gives (λ x. (tt, tokens_of x.now)) result (spec.expect_word wanted (tokens_of tokens.now)) }
 {
     match tokens {
-        [CToken::Quoted(found), after @ ..] => {
+        [CToken::Quoted(found), behind @ ..] => {
             if are_same_words(*found, wanted) {
-                Ok(after)
+                Ok(behind)
             } else {
                 Err(unexpected(tokens))
             }
@@ -97,11 +100,14 @@ pub fn expect_word<'a>(tokens: &'a [CToken<'a>], wanted: Word) -> Result<&'a [CT
 
 /// A name, and the tokens after it.
 #[tactic(auto, unfolding(token_parsing::specs::Parser::one_of))]
-pub fn name<'a>(alloc: Global, tokens: &'a [CToken<'a>]) -> Result<(Name, &'a [CToken<'a>]), ParseError>
+pub fn name<'a>(
+    alloc: Global,
+    tokens: &'a [CToken<'a>],
+) -> Result<(Name, &'a [CToken<'a>]), ParseError>
     ensures { Gives (λ x. (x.0, tokens_of x.1.now)) result (one_of spec.names (tokens_of tokens.now)) }
 {
     match tokens {
-        [CToken::Identifier(bytes), after @ ..] => Ok((Items::from_slice(alloc, bytes)?, after)),
+        [CToken::Identifier(bytes), behind @ ..] => Ok((Items::from_slice(alloc, bytes)?, behind)),
         _ => Err(unexpected(tokens)),
     }
 }
@@ -124,24 +130,27 @@ fn value_at_most(digits: &[u8], most: u64) -> Option<u64>
 {
     let mut value: u128 = 0;
     let mut rest = digits;
-    while let [digit, after @ ..] = rest {
+    while let [digit, behind @ ..] = rest {
         value = value * 10 + digit_value(*digit);
         if value > u128::from(most) {
             return None;
         }
-        rest = after;
+        rest = behind;
     }
     Some(value as u64)
 }
 
 /// A number of at most `most`, and the tokens after it.
 #[tactic(auto, unfolding(token_parsing::specs::Parser::one_of))]
-pub fn number<'a>(tokens: &'a [CToken<'a>], most: u64) -> Result<(u64, &'a [CToken<'a>]), ParseError>
+pub fn number<'a>(
+    tokens: &'a [CToken<'a>],
+    most: u64,
+) -> Result<(u64, &'a [CToken<'a>]), ParseError>
     ensures { Gives (λ x. (x.0, tokens_of x.1.now)) result (one_of (spec.numbers most) (tokens_of tokens.now)) }
 {
     match tokens {
-        [CToken::Numeral(digits), after @ ..] => match value_at_most(digits, most) {
-            Some(value) => Ok((value, after)),
+        [CToken::Numeral(digits), behind @ ..] => match value_at_most(digits, most) {
+            Some(value) => Ok((value, behind)),
             None => Err(unexpected(tokens)),
         },
         _ => Err(unexpected(tokens)),
@@ -154,9 +163,9 @@ pub fn unary<'a>(tokens: &'a [CToken<'a>]) -> Result<(CUnary, &'a [CToken<'a>]),
     ensures { Gives (λ x. (x.0, tokens_of x.1.now)) result (one_of spec.unaries (tokens_of tokens.now)) }
 {
     match tokens {
-        [CToken::Sign(Mark::Minus), after @ ..] => Ok((CUnary::Minus, after)),
-        [CToken::Sign(Mark::Exclamation), after @ ..] => Ok((CUnary::Not, after)),
-        [CToken::Sign(Mark::Tilde), after @ ..] => Ok((CUnary::Complement, after)),
+        [CToken::Sign(Mark::Minus), behind @ ..] => Ok((CUnary::Minus, behind)),
+        [CToken::Sign(Mark::Exclamation), behind @ ..] => Ok((CUnary::Not, behind)),
+        [CToken::Sign(Mark::Tilde), behind @ ..] => Ok((CUnary::Complement, behind)),
         _ => Err(unexpected(tokens)),
     }
 }
@@ -167,7 +176,10 @@ pub fn is_unary(tokens: &[CToken<'_>]) -> bool
     ensures { result ≡ begins spec.unaries (tokens_of tokens.now) }
 {
     match tokens {
-        [CToken::Sign(Mark::Minus | Mark::Exclamation | Mark::Tilde), ..] => true,
+        [
+            CToken::Sign(Mark::Minus | Mark::Exclamation | Mark::Tilde),
+            ..
+        ] => true,
         _ => false,
     }
 }
@@ -204,8 +216,8 @@ pub fn binary<'a>(tokens: &'a [CToken<'a>]) -> Result<(CBinary, &'a [CToken<'a>]
     ensures { Gives (λ x. (x.0, tokens_of x.1.now)) result (one_of spec.binaries (tokens_of tokens.now)) }
 {
     match tokens {
-        [CToken::Sign(mark), after @ ..] => match binary_of(*mark) {
-            Some(operator) => Ok((operator, after)),
+        [CToken::Sign(mark), behind @ ..] => match binary_of(*mark) {
+            Some(operator) => Ok((operator, behind)),
             None => Err(unexpected(tokens)),
         },
         _ => Err(unexpected(tokens)),
@@ -217,4 +229,14 @@ pub fn same<'a>(tokens: &'a [CToken<'a>]) -> &'a [CToken<'a>]
     ensures { result.now ≡ tokens.now }
 {
     tokens
+}
+
+/// The tokens after the next.
+pub fn after<'a>(tokens: &'a [CToken<'a>]) -> &'a [CToken<'a>]
+    ensures { tokens_of result.now ≡ rest (tokens_of tokens.now) }
+{
+    match tokens {
+        [] => tokens,
+        [_, behind @ ..] => behind,
+    }
 }

@@ -15,7 +15,10 @@ use token_parsing::refusal::{ParseError, unexpected};
 
 /// `struct name`.
 #[tactic(auto, unfolding(crate::specs::Types::struct_type))]
-fn struct_type<'a>(alloc: Global, tokens: &'a [CToken<'a>]) -> Result<(CType, &'a [CToken<'a>]), ParseError>
+fn struct_type<'a>(
+    alloc: Global,
+    tokens: &'a [CToken<'a>],
+) -> Result<(CType, &'a [CToken<'a>]), ParseError>
     ensures { Gives (λ x. (x.0, tokens_of x.1.now)) result (spec.struct_type (tokens_of tokens.now)) }
 {
     let rest = expect_word(tokens, Word::Struct)?;
@@ -56,7 +59,10 @@ fn scalar<'a>(tokens: &'a [CToken<'a>]) -> Result<(CType, &'a [CToken<'a>]), Par
 }
 
 /// The name of a typedef.
-fn named_type<'a>(alloc: Global, tokens: &'a [CToken<'a>]) -> Result<(CType, &'a [CToken<'a>]), ParseError>
+fn named_type<'a>(
+    alloc: Global,
+    tokens: &'a [CToken<'a>],
+) -> Result<(CType, &'a [CToken<'a>]), ParseError>
     ensures { Gives (λ x. (x.0, tokens_of x.1.now)) result (and_then (one_of names (tokens_of tokens.now)) (λ n s. Ok (Named n, s))) }
 {
     let (name, rest) = name(alloc, tokens)?;
@@ -65,7 +71,10 @@ fn named_type<'a>(alloc: Global, tokens: &'a [CToken<'a>]) -> Result<(CType, &'a
 
 /// A type before its stars.
 #[tactic(auto, unfolding(crate::specs::Types::base_type))]
-fn base_type<'a>(alloc: Global, tokens: &'a [CToken<'a>]) -> Result<(CType, &'a [CToken<'a>]), ParseError>
+fn base_type<'a>(
+    alloc: Global,
+    tokens: &'a [CToken<'a>],
+) -> Result<(CType, &'a [CToken<'a>]), ParseError>
     ensures { Gives (λ x. (x.0, tokens_of x.1.now)) result (spec.base_type (tokens_of tokens.now)) }
 {
     if is_name(tokens) {
@@ -85,7 +94,11 @@ fn base_type<'a>(alloc: Global, tokens: &'a [CToken<'a>]) -> Result<(CType, &'a 
 
 /// A pointer to the type, where a star is next.
 #[tactic(auto, unfolding(crate::specs::Types::pointer_to))]
-fn pointer_to<'a>(alloc: Global, tokens: &'a [CToken<'a>], of: CType) -> Result<(CType, &'a [CToken<'a>]), ParseError>
+fn pointer_to<'a>(
+    alloc: Global,
+    tokens: &'a [CToken<'a>],
+    of: CType,
+) -> Result<(CType, &'a [CToken<'a>]), ParseError>
     ensures { Gives (λ x. (x.0, tokens_of x.1.now)) result (spec.pointer_to of (tokens_of tokens.now)) }
 {
     let rest = expect(tokens, Mark::Star)?;
@@ -93,7 +106,11 @@ fn pointer_to<'a>(alloc: Global, tokens: &'a [CToken<'a>], of: CType) -> Result<
 }
 
 /// The stars after a type.
-pub fn stars<'a>(alloc: Global, tokens: &'a [CToken<'a>], of: CType) -> Result<(CType, &'a [CToken<'a>]), ParseError>
+pub fn stars<'a>(
+    alloc: Global,
+    tokens: &'a [CToken<'a>],
+    of: CType,
+) -> Result<(CType, &'a [CToken<'a>]), ParseError>
     ensures { Gives (λ x. (x.0, tokens_of x.1.now)) result (spec.stars of (tokens_of tokens.now)) }
 {
     let mut of = of;
@@ -110,7 +127,10 @@ pub fn stars<'a>(alloc: Global, tokens: &'a [CToken<'a>], of: CType) -> Result<(
 }
 
 #[tactic(auto, unfolding(crate::specs::Types::object_type))]
-pub fn object_type<'a>(alloc: Global, tokens: &'a [CToken<'a>]) -> Result<(CType, &'a [CToken<'a>]), ParseError>
+pub fn object_type<'a>(
+    alloc: Global,
+    tokens: &'a [CToken<'a>],
+) -> Result<(CType, &'a [CToken<'a>]), ParseError>
     ensures { Gives (λ x. (x.0, tokens_of x.1.now)) result (spec.object_type (tokens_of tokens.now)) }
 {
     let (of, rest) = base_type(alloc, tokens)?;
@@ -119,7 +139,10 @@ pub fn object_type<'a>(alloc: Global, tokens: &'a [CToken<'a>]) -> Result<(CType
 
 /// `void`, and `void *` with further stars.
 #[tactic(auto, unfolding(crate::specs::Types::after_void))]
-fn after_void<'a>(alloc: Global, tokens: &'a [CToken<'a>]) -> Result<(Option<CType>, &'a [CToken<'a>]), ParseError>
+fn after_void<'a>(
+    alloc: Global,
+    tokens: &'a [CToken<'a>],
+) -> Result<(Option<CType>, &'a [CToken<'a>]), ParseError>
     ensures { Gives (λ x. (x.0, tokens_of x.1.now)) result (spec.after_void (tokens_of tokens.now)) }
 {
     let rest = expect_word(tokens, Word::Void)?;
@@ -133,7 +156,10 @@ fn after_void<'a>(alloc: Global, tokens: &'a [CToken<'a>]) -> Result<(Option<CTy
 
 /// The result of a function: `void`, or a type.
 #[tactic(auto, unfolding(crate::specs::Types::result_type))]
-pub fn result_type<'a>(alloc: Global, tokens: &'a [CToken<'a>]) -> Result<(Option<CType>, &'a [CToken<'a>]), ParseError>
+pub fn result_type<'a>(
+    alloc: Global,
+    tokens: &'a [CToken<'a>],
+) -> Result<(Option<CType>, &'a [CToken<'a>]), ParseError>
     ensures { Gives (λ x. (x.0, tokens_of x.1.now)) result (spec.result_type (tokens_of tokens.now)) }
 {
     if is_word(tokens, Word::Void) {
@@ -145,7 +171,10 @@ pub fn result_type<'a>(alloc: Global, tokens: &'a [CToken<'a>]) -> Result<(Optio
 
 /// `struct name *`.
 #[tactic(auto, unfolding(crate::specs::Types::struct_pointer))]
-fn struct_pointer<'a>(alloc: Global, tokens: &'a [CToken<'a>]) -> Result<(CCast, &'a [CToken<'a>]), ParseError>
+fn struct_pointer<'a>(
+    alloc: Global,
+    tokens: &'a [CToken<'a>],
+) -> Result<(CCast, &'a [CToken<'a>]), ParseError>
     ensures { Gives (λ x. (x.0, tokens_of x.1.now)) result (spec.struct_pointer (tokens_of tokens.now)) }
 {
     let rest = expect_word(tokens, Word::Struct)?;
@@ -178,7 +207,10 @@ fn scalar_cast<'a>(tokens: &'a [CToken<'a>]) -> Result<(CCast, &'a [CToken<'a>])
 
 /// What a cast names.
 #[tactic(auto, unfolding(crate::specs::Types::cast_type))]
-pub fn cast_type<'a>(alloc: Global, tokens: &'a [CToken<'a>]) -> Result<(CCast, &'a [CToken<'a>]), ParseError>
+pub fn cast_type<'a>(
+    alloc: Global,
+    tokens: &'a [CToken<'a>],
+) -> Result<(CCast, &'a [CToken<'a>]), ParseError>
     ensures { Gives (λ x. (x.0, tokens_of x.1.now)) result (spec.cast_type (tokens_of tokens.now)) }
 {
     if is_word(tokens, Word::Struct) {
