@@ -184,12 +184,12 @@ other_text some (too_deep k h) = too_deep k (λ w. some)
 -- ---- one after the other, grouped otherwise
 
 pub track_right : {T A B C : Type 0} {n : ℕ} {W : Type 0} {y : C} {rest : List T} (o : Outcome T A) (f : A → Parser T B) (g : B → Parser T C)
-  → Tracked n W y rest (and_then (and_then o f) g) → Tracked n W y rest (and_then o (λ a s. and_then (f a s) g))
+    → Tracked n W y rest (and_then (and_then o f) g) → Tracked n W y rest (and_then o (λ a s. and_then (f a s) g))
 track_right (Ok p) f g h = h
 track_right (Err e) f g h = h
 
 pub track_left : {T A B C : Type 0} {n : ℕ} {W : Type 0} {y : C} {rest : List T} (o : Outcome T A) (f : A → Parser T B) (g : B → Parser T C)
-  → Tracked n W y rest (and_then o (λ a s. and_then (f a s) g)) → Tracked n W y rest (and_then (and_then o f) g)
+    → Tracked n W y rest (and_then o (λ a s. and_then (f a s) g)) → Tracked n W y rest (and_then (and_then o f) g)
 track_left (Ok p) f g h = h
 track_left (Err e) f g h = h
 
@@ -204,7 +204,7 @@ along_some (last t w r) = omega arith
 along_some (longer n t w r h) = omega arith
 
 taken_further : {T A B : Type 0} {n m : ℕ} {W : Type 0} {x : A} {y : B} {rest rest' : List T} {o : Outcome T A} {f : A → Parser T B}
-  → Tracked n W x rest o → Takes m o → ((a : A) → Shrinks (f a)) → ((r : List T) → length r < m → Along n rest r → Tracked n W y rest' (f x r)) → Tracked n W y rest' (and_then o f)
+    → Tracked n W x rest o → Takes m o → ((a : A) → Shrinks (f a)) → ((r : List T) → length r < m → Along n rest r → Tracked n W y rest' (f x r)) → Tracked n W y rest' (and_then o f)
 taken_further (meets r h) takes shrinks k = k r takes h
 taken_further (past a r h) takes shrinks k = short_tracked (omega arith) (shrinks a _ r h)
 taken_further (refuses_past j h) takes shrinks k = refuses_past j h
@@ -212,37 +212,37 @@ taken_further (too_deep j h) takes shrinks k = too_deep j h
 
 -- one turn, and then the others
 pub track_turn : {T A B : Type 0} {n : ℕ} {W : Type 0} {b : A} {y : B} {rest rest' : List T} (test : List T → Bool) (part : A → Parser T A) (f : A → Parser T B) (g : ℕ) (a : A) (s : List T)
-  → test s ≡ true → length s ≤ g → 0 < length s → Takes (length s) (part a s) → ((a : A) → Shrinks (part a)) → ((a : A) → Shrinks (f a)) → Tracked n W b rest (part a s)
-  → ((g : ℕ) (r : List T) → length r ≤ g → Along n rest r → Tracked n W y rest' (and_then (again test part g b r) f)) → Tracked n W y rest' (and_then (again test part g a s) f)
+    → test s ≡ true → length s ≤ g → 0 < length s → Takes (length s) (part a s) → ((a : A) → Shrinks (part a)) → ((a : A) → Shrinks (f a)) → Tracked n W b rest (part a s)
+    → ((g : ℕ) (r : List T) → length r ≤ g → Along n rest r → Tracked n W y rest' (and_then (again test part g b r) f)) → Tracked n W y rest' (and_then (again test part g a s) f)
 unfolding again
 track_turn test part f zero a s e enough some takes shrinks shrinks' h k = absurd (omega arith)
 track_turn {n} {W} {b} {y} {rest} {rest'} test part f (suc g) a s e enough some takes shrinks shrinks' h k = turned (test s) e
   where
-  turned : (z : Bool) → z ≡ true → Tracked n W y rest' (and_then (elim z [ true ↦ and_then (part a s) (again test part g) | false ↦ Ok (a, s) ]) f)
-  turned true i = track_left (part a s) (again test part g) f (taken_further h takes (λ c. then_shrinks (again_shrinks test part shrinks g c) shrinks') (λ r below l. k g r (omega arith) l))
-  turned false i = absurd cc
+    turned : (z : Bool) → z ≡ true → Tracked n W y rest' (and_then (elim z [ true ↦ and_then (part a s) (again test part g) | false ↦ Ok (a, s) ]) f)
+    turned true i = track_left (part a s) (again test part g) f (taken_further h takes (λ c. then_shrinks (again_shrinks test part shrinks g c) shrinks') (λ r below l. k g r (omega arith) l))
+    turned false i = absurd cc
 
 -- no turn more
 pub track_no_turn : {T A B : Type 0} {n : ℕ} {W : Type 0} {y : B} {rest' : List T} (test : List T → Bool) (part : A → Parser T A) (f : A → Parser T B) (g : ℕ) (a : A) (s : List T)
-  → test s ≡ false → Tracked n W y rest' (f a s) → Tracked n W y rest' (and_then (again test part g a s) f)
+    → test s ≡ false → Tracked n W y rest' (f a s) → Tracked n W y rest' (and_then (again test part g a s) f)
 unfolding again
 track_no_turn test part f zero a s e h = h
 track_no_turn {n} {W} {y} {rest'} test part f (suc g) a s e h = turned (test s) e
   where
-  turned : (z : Bool) → z ≡ false → Tracked n W y rest' (and_then (elim z [ true ↦ and_then (part a s) (again test part g) | false ↦ Ok (a, s) ]) f)
-  turned true i = absurd cc
-  turned false i = h
+    turned : (z : Bool) → z ≡ false → Tracked n W y rest' (and_then (elim z [ true ↦ and_then (part a s) (again test part g) | false ↦ Ok (a, s) ]) f)
+    turned true i = absurd cc
+    turned false i = h
 
 -- a turn that takes a token
 pub short_turn : {T A B : Type 0} {n : ℕ} (test : List T → Bool) (part : A → Parser T A) (f : A → Parser T B) (g : ℕ) (a : A) (s : List T)
-  → test s ≡ true → length s ≤ g → 0 < length s → Short n (part a s) → ((a : A) → Shrinks (part a)) → ((a : A) → Shrinks (f a)) → Short n (and_then (again test part g a s) f)
+    → test s ≡ true → length s ≤ g → 0 < length s → Short n (part a s) → ((a : A) → Shrinks (part a)) → ((a : A) → Shrinks (f a)) → Short n (and_then (again test part g a s) f)
 unfolding again
 short_turn test part f zero a s e enough some h shrinks shrinks' = absurd (omega arith)
 short_turn {n} test part f (suc g) a s e enough some h shrinks shrinks' = turned (test s) e
   where
-  turned : (z : Bool) → z ≡ true → Short n (and_then (elim z [ true ↦ and_then (part a s) (again test part g) | false ↦ Ok (a, s) ]) f)
-  turned true i = short_then (short_then h (λ b. again_shrinks test part shrinks g b)) shrinks'
-  turned false i = absurd cc
+    turned : (z : Bool) → z ≡ true → Short n (and_then (elim z [ true ↦ and_then (part a s) (again test part g) | false ↦ Ok (a, s) ]) f)
+    turned true i = short_then (short_then h (λ b. again_shrinks test part shrinks g b)) shrinks'
+    turned false i = absurd cc
 
 -- a test that sees the next token alone
 abbrev pub Steady : {T : Type 0} → (List T → Bool) → Type 0
@@ -277,7 +277,7 @@ module _ {T A : Type 0} (n : ℕ) (W : Type 0) (spell : A → List T → List T)
   follow_list l (x ∷ more) rest h = subst Follow (sym (l.one_more x more rest)) (l.follows x (spell_list more rest))
 
   again_list : Listing → (xs : List A) → AllByRecursion Item xs → (rest : List T) → Follow rest → test rest ≡ false → (found : List A) (g : ℕ) (s : List T) → length s ≤ g
-    → Along n (spell_list xs rest) s → Tracked n W (found ++ xs) rest (and_then (again test part g found s) (λ a s. Ok (a, s)))
+      → Along n (spell_list xs rest) s → Tracked n W (found ++ xs) rest (and_then (again test part g found s) (λ a s. Ok (a, s)))
   again_list l [] items rest follow stops found g s enough h =
       let h' = subst (λ w. Along n w s) (l.none rest) h in
       track_no_turn test part (λ a s. Ok (a, s)) g found s (l.steady n rest s h' ∙ stops) (moved (sym (append-nil found)) (track_pure found h'))
@@ -285,11 +285,11 @@ module _ {T A : Type 0} (n : ℕ) (W : Type 0) (spell : A → List T → List T)
       let after = spell_list more rest in
       let h' = subst (λ w. Along n w s) (l.one_more x more rest) h in
       track_turn test part (λ a s. Ok (a, s)) g found s (l.steady n (spell x after) s h' ∙ l.goes x after) enough (some_left (spell x after) (l.some x after) h') (l.takes found s) l.shrinks (λ a. pure_shrinks a)
-        (items.0 found after s (follow_list l more rest follow) h')
-        (λ g r enough h. moved (append_assoc found (x ∷ []) more) (again_list l more items.1 rest follow stops (found ++ x ∷ []) g r enough h))
+      (items.0 found after s (follow_list l more rest follow) h')
+      (λ g r enough h. moved (append_assoc found (x ∷ []) more) (again_list l more items.1 rest follow stops (found ++ x ∷ []) g r enough h))
 
   pub track_list : Listing → (xs : List A) → AllByRecursion Item xs → (rest : List T) → Follow rest → test rest ≡ false → (found : List A) (s : List T)
-    → Along n (spell_list xs rest) s → Tracked n W (found ++ xs) rest (repeat test part found s)
+      → Along n (spell_list xs rest) s → Tracked n W (found ++ xs) rest (repeat test part found s)
   unfolding repeat
   track_list l xs items rest follow stops found s h =
       track_plain (again test part (length s) found s) (again_list l xs items rest follow stops found (length s) s (omega arith) h)
