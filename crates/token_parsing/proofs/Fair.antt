@@ -63,6 +63,12 @@ unfolding one_of
 fair_token class [] at h k = fair_refuse at h
 fair_token class (t ∷ r) {f} at h k = taking t r (class t) f at h (λ a e. k t a r e refl)
 
+-- a token of a class whose tokens are known
+pub fair_spelled : {T A B : Type 0} {all : List T} {U D : List T → Type 0} {Q : B → List T → Type 0} {front : List T → List T} (class : Class T A) (token : A → T)
+    → ((t : T) (a : A) → class t ≡ Some a → t ≡ token a) → (s : List T) {f : A → Parser T B} → At all front s → U (front [])
+    → ((a : A) (r : List T) → s ≡ token a ∷ r → At all (λ u. front (token a ∷ u)) r → Fair all U D Q (f a r)) → Fair all U D Q (and_then (one_of class s) f)
+fair_spelled class token is s at h k = fair_token class s at h (λ t a r c e. let same = e ∙ ap (λ z. z ∷ r) (is t a c) in k a r same (at_token at (token a) r same))
+
 pub fair_either : {T A : Type 0} {all : List T} {U D : List T → Type 0} {P : A → List T → Type 0} (b : Bool) {o o' : Outcome T A}
     → (b ≡ true → Fair all U D P o) → (b ≡ false → Fair all U D P o') → Fair all U D P (elim b [ true ↦ o | false ↦ o' ])
 fair_either true h k = h refl
