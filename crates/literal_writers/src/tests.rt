@@ -46,3 +46,18 @@ fn the_texts_that_a_table_names_are_taken_or_refused(rt: HostRuntime) -> Result<
     }
     Ok(())
 }
+
+#[test]
+fn a_text_has_at_most_4194304_bytes(rt: HostRuntime) -> Result<(), Fail> {
+    for (length, is_taken) in [(4_194_304, true), (4_194_305, false)] {
+        let mut source = Vec::from_slice(rt.alloc(), b"program p; begin write('")?;
+        source.resize(source.len() + length, b'a')?;
+        source.extend_from_slice(b"') end.")?;
+        let found = written_by(rt.alloc(), &source)?;
+        assert_eq!(rt;
+            found.map(|written| written.len()),
+            is_taken.then_some(length)
+        );
+    }
+    Ok(())
+}

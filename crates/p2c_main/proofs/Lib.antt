@@ -1,3 +1,4 @@
 pub mod ToldLemmas
 pub mod FrontLemmas
+pub mod Translations
 pub mod WriterLemmas

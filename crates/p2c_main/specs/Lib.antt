@@ -1,5 +1,5 @@
 pub mod Messages
 pub mod Reading
+pub mod Translated
 pub mod Words
-pub mod Writer
 pub mod Written

@@ -2,7 +2,9 @@
 
 ghost use Rattle.std.specs.Prelude.{◌≡◌, IfOk, map};
 ghost use Rattle.c_grammar.specs.Text.{IsCTree};
-ghost use Rattle.p2c_main.specs.Writer.{put_of, writer_of};
+ghost use Rattle.std.specs.List.{AllByRecursion};
+ghost use Rattle.agreement.specs.Laws.{IsByte};
+ghost use Rattle.agreement.specs.Writers.{put_of, writer_of};
 
 use c_tree::expr::CExpr;
 use c_tree::program::{CMain, CProgram};
@@ -14,6 +16,7 @@ use tree_lists::Items;
 pub fn writer(alloc: Global, bytes: &[u8]) -> Result<CProgram, AllocError>
     ensures value { IfOk result (λ program. program ≡ writer_of bytes.now) }
     ensures tree { IfOk result IsCTree }
+    ensures bytes { AllByRecursion IsByte bytes.now }
 {
     let mut body = puts(alloc, bytes)?;
     body.push(CStatement::return_of(Some(CExpr::number(0))))?;

@@ -1,12 +1,10 @@
 //! p2c: old Pascal programs carried to C.
 #![tactic(auto)]
 
-mod literals;
 mod lower;
 mod message;
 mod outcome;
 mod reading;
-mod scanner;
 #[cfg(test)]
 mod tests;
 mod top;

@@ -94,6 +94,7 @@ fn programs_that_write_literals_become_c(rt: HostRuntime) -> Result<(), Fail> {
         ),
         ("PROGRAM P1x(OUTPUT,Output);begin write('''')end.", "'"),
         ("program p; begin write('{}(*')end.", "{}(*"),
+        ("program p; { a } begin (* b } end.", ""),
     ] {
         let bytes = Vec::from_slice(rt.alloc(), source.as_bytes())?;
         let answer = run(rt.alloc(), &["translate", "a.pas"], bytes, 0, 9, 0)?;
@@ -116,8 +117,7 @@ fn all_other_texts_are_refused_and_nothing_is_written(rt: HostRuntime) -> Result
         "program h; begin writeln() end.",
         "program h; begin writeln('a end.",
         "program h; begin writeln('a\nb') end.",
-        "program h; begin { } end.",
-        "program h; begin (* *) end.",
+        "program h; begin { end.",
         "program h; begin end. x",
         "program h; begin end",
         "program h; begin begin end end.",

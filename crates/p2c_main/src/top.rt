@@ -1,22 +1,21 @@
 //! The top call.
 
-ghost use Rattle.std.specs.Prelude.{◌≡◌, ◌≢◌, ◌<◌, ◌↔◌, ◌⊎◌, ℕ, List, None, IfOk, IfSome, length};
+ghost use Rattle.std.specs.Prelude.{◌≡◌, ◌≢◌, ◌≤◌, ◌↔◌, ◌⊎◌, None, IfOk, option_map, length};
 ghost use Rattle.p2c_outside.specs.Counts.{Rose};
-ghost use Rattle.p2c_outside.specs.Told.{Gains, WhereTold};
+ghost use Rattle.p2c_outside.specs.Told.{Gains};
 ghost use Rattle.p2c_main.specs.Messages.{Reports, status_of};
 ghost use Rattle.p2c_main.specs.Reading.{Lacks, outcome_of};
 ghost use Rattle.p2c_main.specs.Words.{file_asked, name_asked};
-ghost use Rattle.p2c_main.specs.Writer.{writer_of, GainsWriter, GainsWriterPart};
+ghost use Rattle.p2c_main.specs.Translated.{Accepts, IsMade, IsTranslation, Translates, TranslatesPart, Refuses};
 ghost use Rattle.p2c_main.specs.Written.{GainsPart};
-ghost use Rattle.c_grammar.specs.Text.{CText};
 
-use crate::literals::written_by;
 use crate::lower::writer;
 use crate::message::report;
 use crate::outcome::Outcome;
 use crate::reading::{LONGEST_SOURCE, ReadRefusal, read_whole};
 use crate::words::{Words, asked_file};
 use crate::writing::offer;
+use literal_writers::written_by;
 use p2c_outside::{Files, Sink, Source};
 use std::alloc::{AllocError, Global};
 
@@ -37,9 +36,12 @@ pub fn p2c<F: Files, I: Source, O: Sink, E: Sink>(
     ensures read_fault { result ≡ 243 → Rose (F.faults files.old) (F.faults files.new) }
     ensures write_fault { result ≡ 244 → Rose (O.faults out.old) (O.faults out.new) }
 
-    // what the output took
-    ensures done { result ≡ 0 → GainsWriter (O.written out.old) (O.written out.new) }
-    ensures cut { result ≡ 244 → GainsWriterPart (O.written out.old) (O.written out.new) }
+    // which texts are accepted, and what the output took
+    ensures refused { result ≡ 241 → Refuses (F.told files.old) (name_asked words.now) }
+    ensures done { result ≡ 0 →
+        Translates (F.told files.old) (name_asked words.now) (O.written out.old) (O.written out.new) }
+    ensures cut { result ≡ 244 →
+        TranslatesPart (F.told files.old) (name_asked words.now) (O.written out.old) (O.written out.new) }
 
     // no fault is swallowed
     ensures none_missing { result ≢ 242 → result ≢ 243 → F.missing files.new ≡ F.missing files.old }
@@ -71,10 +73,12 @@ fn translate<F: Files, O: Sink>(alloc: Global, files: &mut F, name: &str, out: &
     ensures absent { result ≡ Outcome.Missing → Lacks (F.told files.old) name.now }
     ensures read_fault { result ≡ Outcome.ReadFault → Rose (F.faults files.old) (F.faults files.new) }
     ensures write_fault { result ≡ Outcome.WriteFault → Rose (O.faults out.old) (O.faults out.new) }
-    ensures done { result ≡ Outcome.Done → GainsWriter (O.written out.old) (O.written out.new) }
-    ensures cut { result ≡ Outcome.WriteFault → GainsWriterPart (O.written out.old) (O.written out.new) }
-    ensures too_long { result ≡ Outcome.TooLong →
-        WhereTold (F.told files.old) name.now (λ bytes. LONGEST_SOURCE < length bytes) }
+    ensures too_long { result ≡ Outcome.TooLong → Refuses (F.told files.old) name.now }
+    ensures unbuilt { result ≡ Outcome.Unbuilt → Refuses (F.told files.old) name.now }
+    ensures done { result ≡ Outcome.Done →
+        Translates (F.told files.old) name.now (O.written out.old) (O.written out.new) }
+    ensures cut { result ≡ Outcome.WriteFault →
+        TranslatesPart (F.told files.old) name.now (O.written out.old) (O.written out.new) }
 
     ensures none_missing { result ≢ Outcome.Missing → result ≢ Outcome.ReadFault →
         F.missing files.new ≡ F.missing files.old }
@@ -108,8 +112,8 @@ fn refused(refusal: ReadRefusal) -> Outcome
 
 /// The C text, or `None` where the Pascal text is none of the form that is built.
 fn translated(alloc: Global, source: &[u8]) -> Result<Option<Vec<u8>>, AllocError>
-    ensures { IfOk result (λ found. IfSome found (λ text.
-        (bytes : List ℕ) × CText text.items (writer_of bytes))) }
+    requires { length source.now ≤ LONGEST_SOURCE }
+    ensures { IfOk result (λ found. IsMade source.now (option_map (λ text. text.items) found)) }
 {
     let Some(written) = written_by(alloc, source)? else {
         return Ok(None);

@@ -1,5 +1,5 @@
 use Rattle.std.proofs.Common.{◌≡◌, map, take}
-use Rattle.p2c_main.specs.Writer.{put_of}
+use Rattle.agreement.specs.Writers.{put_of}
 use Rattle.p2c_main.proofs.lower.puts.Given as goal
 
 abbrev pub invariant-loop-byte : goal.invariant-loop-byte

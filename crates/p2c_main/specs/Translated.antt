@@ -1,0 +1,33 @@
+-- Which texts are accepted, and what their translation is.
+use Rattle.std.specs.Prelude.{◌≡◌, ℕ, ◌≤◌, Option, None, Some, List, length}
+use Rattle.p2c_text.specs.declared.dialect.Dialect.TheVariants.{Iso}
+use Rattle.p2c_outside.specs.Told.{Named, WhereTold, Gains}
+use Rattle.agreement.specs.Agrees.{Agrees}
+use Rattle.agreement.specs.Writers.{Writing, typed_writer}
+use Rattle.literal_writers.specs.Form.{IsWriter}
+use Rattle.p2c_main.specs.Written.{GainsPart}
+
+-- the source is a program with these statements, and not too long
+abbrev pub Accepts : (source : List ℕ) → List Writing → Type 0
+Accepts source ws = (length source ≤ 8388608) × IsWriter source ws
+
+-- the text agrees with the typed program of the source
+abbrev pub IsTranslation : (source text : List ℕ) → Type 0
+IsTranslation source text = (ws : List Writing) × Accepts source ws × Agrees (typed_writer Iso ws) text
+
+-- what was made of a source that is not too long: a translation, or nothing where it is not accepted
+abbrev pub IsMade : (source : List ℕ) → Option (List ℕ) → Type 0
+IsMade source (Some text) = IsTranslation source text
+IsMade source None = (ws : List Writing) → Accepts source ws → ⊥
+
+-- what was written gained the translation of a source, which is the file of the name where the files are told
+abbrev pub Translates : Option Named → (name : List ℕ) → (old new : Option (List ℕ)) → Type 0
+Translates told name old new = (source text : List ℕ) × WhereTold told name (λ bytes. source ≡ bytes) × IsTranslation source text × Gains old new text
+
+-- what was written gained a proper prefix of such a translation
+abbrev pub TranslatesPart : Option Named → (name : List ℕ) → (old new : Option (List ℕ)) → Type 0
+TranslatesPart told name old new = (source text : List ℕ) × WhereTold told name (λ bytes. source ≡ bytes) × IsTranslation source text × GainsPart old new text
+
+-- where the files are told, the file of the name is there and is not accepted
+abbrev pub Refuses : Option Named → (name : List ℕ) → Type 0
+Refuses told name = WhereTold told name (λ bytes. (ws : List Writing) → Accepts bytes ws → ⊥)
