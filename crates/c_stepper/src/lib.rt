@@ -1,0 +1,12 @@
+//! Runs C programs, one step of the meaning at a time.
+#![tactic(auto)]
+
+mod cast;
+mod evaluate;
+mod halt;
+mod operate;
+mod place;
+mod read;
+mod scope;
+mod types;
+mod value;
