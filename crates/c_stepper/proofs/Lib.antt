@@ -8,3 +8,6 @@ pub mod Reading
 pub mod Parts
 pub mod Casts
 pub mod Evaluations
+pub mod Todo
+pub mod LabelPaths
+pub mod Taking

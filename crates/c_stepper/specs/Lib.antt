@@ -5,3 +5,6 @@ pub mod Operators
 pub mod Scopes
 pub mod Casts
 pub mod Evaluations
+pub mod Spots
+pub mod Labels
+pub mod Stores

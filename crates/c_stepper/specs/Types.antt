@@ -1,5 +1,5 @@
 -- The types that the runner reckons with, as types of the meaning.
-use Rattle.std.specs.Prelude.{ℕ, zero, suc, map, List, Option, Some, None}
+use Rattle.std.specs.Prelude.{ℕ, zero, suc, map, List, Option, Some, None, Bool, true, false}
 use Rattle.c_tree.specs.Tree as t
 use Rattle.c_tree.specs.Tree.{ObjectType}
 use Rattle.c_tree.specs.declared.program.CTypedef.{CTypedef}
@@ -60,3 +60,8 @@ typedef_signature f = record { result = f.result; parameters = f.parameters }
 abbrev pub target_of : ObjectType → Option ObjectType
 target_of (t.Pointer of) = Some of
 target_of _ = None
+
+-- whether it is `unsigned char`
+abbrev pub is_byte : ObjectType → Bool
+is_byte t.Byte = true
+is_byte _ = false

@@ -4,9 +4,12 @@
 mod cast;
 mod evaluate;
 mod halt;
+mod label;
 mod operate;
 mod place;
 mod read;
 mod scope;
+mod spot;
+mod store;
 mod types;
 mod value;

@@ -3,7 +3,7 @@ ghost use Rattle.std.specs.Prelude.{◌≡◌, ◌+◌, map, IfOk, IfErr};
 ghost use Rattle.c_tree.specs.Tree as t;
 ghost use Rattle.c_meaning.specs.Types as m;
 ghost use Rattle.c_meaning.specs.States.{variable_type};
-ghost use Rattle.c_stepper.specs.Types.{object_of, layer_of, value_type_of, signature_of, typedef_signature, target_of};
+ghost use Rattle.c_stepper.specs.Types.{object_of, layer_of, value_type_of, signature_of, typedef_signature, target_of, is_byte};
 ghost use Rattle.std.specs.Option.{option_copied, option_map};
 
 use crate::halt::Halt;
@@ -112,6 +112,16 @@ impl<'a> Object<'a> {
         match self.layer() {
             Layer::Pointer(to) => Some(to),
             _ => None,
+        }
+    }
+
+    /// Whether it is `unsigned char`.
+    pub fn is_byte(self) -> bool
+        ensures { result ≡ is_byte (object_of self.entry) }
+    {
+        match self.layer() {
+            Layer::Byte => true,
+            _ => false,
         }
     }
 
