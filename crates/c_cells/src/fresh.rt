@@ -3,12 +3,45 @@ ghost use Rattle.std.specs.Prelude.{◌≡◌, IfOk, reverse};
 ghost use Rattle.c_meaning.specs.Fresh.{fresh, struct_tree, members_tree, member_tree, copies};
 ghost use Rattle.c_cells.specs.Scalars.{scalar_tree};
 
-use crate::cell::{Cell, CellNode};
+use crate::cell::{Cell, CellNode, copied};
+use crate::memory::Block;
 use crate::tree::CellTree;
 use c_tree::program::{CDeclaration, CMember};
 use c_tree::types::{CType, CTypeNode};
 use std::alloc::{AllocError, Global};
 use tree_lists::Items;
+
+/// A type of its own that is the same.
+pub fn copy_type(alloc: Global, of: &CType) -> Result<CType, AllocError>
+    ensures { IfOk result (λ copy. copy ≡ of.now) }
+{
+    match &of.node {
+        CTypeNode::Int => Ok(CType::int()),
+        CTypeNode::Word => Ok(CType::word()),
+        CTypeNode::Byte => Ok(CType::byte()),
+        CTypeNode::VoidPointer => Ok(CType::void_pointer()),
+        CTypeNode::Struct(name) => Ok(CType::structure(copied(alloc, name)?)),
+        CTypeNode::Named(name) => Ok(CType::named(copied(alloc, name)?)),
+        CTypeNode::Pointer(to) => CType::pointer(alloc, copy_type(alloc, to.get())?),
+    }
+}
+
+/// The block with which a variable, or what a `malloc` makes, begins.
+pub fn fresh_block(
+    alloc: Global,
+    zeroed: bool,
+    heap: bool,
+    declared: &[CDeclaration],
+    of: &CType,
+) -> Result<Block, AllocError>
+    ensures { IfOk result (λ block. block ≡ record { of = of.now; tree = fresh zeroed declared.now of.now; heap = heap }) }
+{
+    Ok(Block {
+        of: copy_type(alloc, of)?,
+        tree: fresh(alloc, zeroed, declared, of)?,
+        heap,
+    })
+}
 
 /// A scalar that is zero, or holds nothing.
 fn scalar(zeroed: bool, zero: CellNode) -> CellTree

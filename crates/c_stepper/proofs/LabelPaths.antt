@@ -63,6 +63,7 @@ drop_tail list i s rest h =
 
 mutual
   unfolding from_label from_label_in onto or_else
+
   statement_led : (l : Name) (s : Statement) (list after : List Statement) (i : ℕ) → slice_get list i ≡ Some s → from_label l s (drop (i + 1) list ++ after) ≡ led list after (path_statement l i s)
   statement_led l (m.Label own) list after i h =
       elim (bytes_eq l own) as (λ q. (if q then Some (m.Label own ∷ (drop (i + 1) list ++ after)) else None) ≡ led list after (if q then Some ([], i) else None))

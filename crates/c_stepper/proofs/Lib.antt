@@ -11,3 +11,5 @@ pub mod Evaluations
 pub mod Todo
 pub mod LabelPaths
 pub mod Taking
+pub mod Acting
+pub mod Freeing

@@ -80,15 +80,17 @@ as_other ds (t.Pointer of) (Typed from tree) h = refl
 module _ (c : CProgram) (reach : ℕ) (names : Names) (blocks : Blocks) (root : Root) (path : List ℕ) (tree : Tree) where
   pub root_put : (n : ℕ) → root_number (view c reach names blocks) root ≡ Got n → put_root (view c reach names blocks) root path tree ≡ store blocks n path tree
   unfolding root_number put_root view or_bad store_named
-  root_put n = elim root as (λ r. root_number (view c reach names blocks) r ≡ Got n → put_root (view c reach names blocks) r path tree ≡ store blocks n path tree)
-      [ Named x ↦ elim (number_of c names x) as (λ o. or_bad k.UnknownName o ≡ Got n → store_named blocks o path tree ≡ store blocks n path tree) [ None ↦ (λ h. cc) | Some m ↦ (λ h. let e : m ≡ n = cc in ap (λ i. store blocks i path tree) e) ]
-      | At m ↦ (λ h. let e : m ≡ n = cc in ap (λ i. store blocks i path tree) e) ]
+  root_put n = elim root as (λ r. root_number (view c reach names blocks) r ≡ Got n → put_root (view c reach names blocks) r path tree ≡ store blocks n path tree) [
+    | Named x ↦ elim (number_of c names x) as (λ o. or_bad k.UnknownName o ≡ Got n → store_named blocks o path tree ≡ store blocks n path tree) [ None ↦ (λ h. cc) | Some m ↦ (λ h. let e : m ≡ n = cc in ap (λ i. store blocks i path tree) e) ]
+    | At m ↦ (λ h. let e : m ≡ n = cc in ap (λ i. store blocks i path tree) e)
+  ]
 
   pub root_not_put : (kind : StuckKind) → root_number (view c reach names blocks) root ≡ Bad kind → put_root (view c reach names blocks) root path tree ≡ Bad kind
   unfolding root_number put_root view or_bad store_named
-  root_not_put kind = elim root as (λ r. root_number (view c reach names blocks) r ≡ Bad kind → put_root (view c reach names blocks) r path tree ≡ Bad kind)
-      [ Named x ↦ elim (number_of c names x) as (λ o. or_bad k.UnknownName o ≡ Bad kind → store_named blocks o path tree ≡ Bad kind) [ None ↦ (λ h. let e : kind ≡ k.UnknownName = cc in ap Bad (sym e)) | Some m ↦ (λ h. cc) ]
-      | At m ↦ (λ h. cc) ]
+  root_not_put kind = elim root as (λ r. root_number (view c reach names blocks) r ≡ Bad kind → put_root (view c reach names blocks) r path tree ≡ Bad kind) [
+    | Named x ↦ elim (number_of c names x) as (λ o. or_bad k.UnknownName o ≡ Bad kind → store_named blocks o path tree ≡ Bad kind) [ None ↦ (λ h. let e : kind ≡ k.UnknownName = cc in ap Bad (sym e)) | Some m ↦ (λ h. cc) ]
+    | At m ↦ (λ h. cc)
+  ]
 
 -- where an evaluation stops, no store follows
 pub no_store : {A B : Type 0} (f : A → B) (blocks : Blocks) (e : Halt) (r : Result Store Halt) (a : Answer B) (h : B → Answer Blocks) → IsErrAnd r (λ x. x ≡ e) → Tells f (Err e) a → Stores blocks r (a >>= h)

@@ -1,6 +1,6 @@
 -- The statements still to do, as the place moves.
 use Rattle.std.proofs.Common.{◌≡◌, ℕ, zero, suc, ◌+◌, ◌<◌, ◌≤◌, List, [], ◌∷◌, ◌++◌, drop, length, Bool, true, false, Option, Some, None, refl, sym, ap, ◌∙◌, arith, append_assoc, get_or, inl, inr, ◌⊎◌, ◌&&◌}
-use Rattle.std.specs.Prelude.{slice_get, if◌then◌else◌}
+use Rattle.std.specs.Prelude.{slice_get, not, if◌then◌else◌}
 use Rattle.c_tree.specs.Tree as m
 use Rattle.c_tree.specs.Tree.{Expr, Statement, Body, Empty, Then, list_of, body_of, list_of-body_of}
 use Rattle.c_meaning.specs.Todo.{onto}
@@ -79,6 +79,10 @@ todo_end list outer at h (inr e) =
     let h' : slice_get list at ≡ None = ap (λ o. slice_get (list_in list o) at) (sym e) ∙ h in
     ap (λ o. todo_at list o at) e ∙ none_past list at h'
 
-
 pub branch_list : (a : List Statement) → list_of (body_of a) ≡ a
 branch_list a = list_of-body_of a
+
+pub enter_either : (list : List Statement) (outer : List Level) (at : ℕ) (t : Expr) (a b : Body) (first : Bool) → slice_get (list_in list outer) at ≡ Some (m.IfElse t a b)
+    → todo_at list (outer ++ record { at = at; second = not first } ∷ []) 0 ≡ (if first then onto a (todo_at list outer (at + 1)) else onto b (todo_at list outer (at + 1)))
+enter_either list outer at t a b true h = enter_first list outer at t a b h
+enter_either list outer at t a b false h = enter_second list outer at t a b h

@@ -8,3 +8,4 @@ pub mod Evaluations
 pub mod Spots
 pub mod Labels
 pub mod Stores
+pub mod Runners

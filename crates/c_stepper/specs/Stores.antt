@@ -1,8 +1,8 @@
 -- What stores tell, and what places take.
-use Rattle.std.specs.Prelude.{◌≡◌, ℕ, ℤ, pos, negsuc, Bool, not, List, [], length, Option, Some, None, nat_lt, Result, Ok, Err}
+use Rattle.std.specs.Prelude.{◌≡◌, ℕ, ℤ, pos, negsuc, Bool, not, List, [], length, Option, Some, None, nat_lt, slice_set, Result, Ok, Err}
 use Rattle.c_tree.specs.Tree as t
 use Rattle.c_meaning.specs.Evaluate.{View, value, place}
-use Rattle.c_meaning.specs.Steps.{put_value}
+use Rattle.c_meaning.specs.Steps.{put_value, free_value}
 use Rattle.c_tree.specs.Tree.{ObjectType}
 use Rattle.c_tree.specs.declared.program.CDeclaration.{CDeclaration}
 use Rattle.c_meaning.specs.declared.StuckKind.TheVariants as k
@@ -61,3 +61,17 @@ truth_in x = as_int x >>= (λ z. Got (not (is_zero z)))
 
 abbrev pub chosen : View → t.Expr → Answer Bool
 chosen v a = value v a >>= truth_in
+
+-- the blocks after one of them is gone, or none
+abbrev pub without_one : Blocks → Option ℕ → Blocks
+without_one blocks None = blocks
+without_one blocks (Some n) = slice_set blocks n None
+
+-- the blocks after this one is gone are these
+abbrev pub Frees : Blocks → Result (Option ℕ) Halt → Answer Blocks → Type 0
+Frees blocks (Ok o) answer = Got (without_one blocks o) ≡ answer
+Frees blocks (Err (Stuck kind)) answer = Bad kind ≡ answer
+Frees blocks (Err Memory) answer = Unit {0}
+
+abbrev pub freed_of : View → Blocks → t.Expr → Answer Blocks
+freed_of v blocks a = value v a >>= free_value blocks

@@ -8,6 +8,7 @@ mod label;
 mod operate;
 mod place;
 mod read;
+mod runner;
 mod scope;
 mod spot;
 mod store;

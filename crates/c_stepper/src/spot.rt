@@ -20,20 +20,8 @@ pub fn branch(statement: &CStatement, second: bool) -> &[CStatement]
     ensures { result.now ≡ branch_of second statement.now }
 {
     match &statement.node {
-        CStatementNode::If(_, body) => {
-            if second {
-                &[]
-            } else {
-                body.as_slice()
-            }
-        }
-        CStatementNode::While(_, body) => {
-            if second {
-                &[]
-            } else {
-                body.as_slice()
-            }
-        }
+        CStatementNode::If(_, body) => { if second { &[] } else { body.as_slice() } }
+        CStatementNode::While(_, body) => { if second { &[] } else { body.as_slice() } }
         CStatementNode::IfElse(_, body, other) => {
             if second {
                 other.as_slice()

@@ -4,25 +4,26 @@ ghost use Rattle.c_meaning.specs.Values as w;
 ghost use Rattle.c_meaning.specs.Steps as m;
 ghost use Rattle.c_stepper.specs.Types.{object_of, place_type_of};
 ghost use Rattle.c_cells.specs.Views.{cell_of};
-ghost use Rattle.c_meaning.specs.Cells.{Leaf, Pointer};
+ghost use Rattle.c_meaning.specs.Cells.{Leaf, Pointer, block_at};
 ghost use Rattle.c_tree.specs.Tree as t;
 ghost use Rattle.c_meaning.specs.Types.{Of};
 ghost use Rattle.c_meaning.specs.Answer.{Got};
-ghost use Rattle.c_stepper.specs.Values.{value_of as worth, tree_in};
+ghost use Rattle.c_stepper.specs.Values.{value_of as worth, content_of, tree_in};
 ghost use Rattle.c_stepper.specs.Scopes.{view_at, site_of, HasRoom};
 ghost use Rattle.c_stepper.specs.Halts.{said, Tells};
-ghost use Rattle.c_stepper.specs.Stores.{Stores, next_number, byte_stored, address_stored, byte_put, byte_number, byte_of_number, chosen, truth_in, byte_taken as byte_given, alike_taken as alike_given};
+ghost use Rattle.c_stepper.specs.Stores.{Stores, next_number, byte_stored, address_stored, byte_put, byte_number, byte_of_number, chosen, truth_in, Frees, freed_of, byte_taken as byte_given, alike_taken as alike_given};
 
 use crate::evaluate::{place_of, value_of};
 use crate::halt::Halt;
+use crate::operate::is_zero;
 use crate::place::Site;
 use crate::read::root_number;
 use crate::scope::Scope;
-use crate::operate::is_zero;
-use crate::types::{Base, Object, PlaceType, ValueType, alike};
-use crate::value::{Value, as_int, type_of};
+use crate::types::{Base, Object, PlaceType, ValueType, alike, points_to_object};
+use crate::value::{Content, Value, as_int, held, type_of};
 use c_cells::Path;
 use c_cells::cell::{Cell, CellNode};
+use c_cells::memory::Block;
 use c_cells::tree::{CellTree, copy_tree};
 use c_meaning::StuckKind;
 use c_tree::expr::{CExpr, CPlace};
@@ -85,7 +86,11 @@ fn byte_taken(value: &Value) -> Result<CellTree, StuckKind>
 fn alike_taken(scope: &Scope, of: Object, value: Value) -> Result<CellTree, Halt>
     ensures { Tells (λ t. t) result (alike_given scope.now.program.now.declarations (object_of of.entry) (worth value.entry)) }
 {
-    if !alike(scope.program.declarations.as_slice(), ValueType::Of(of), type_of(&value)) {
+    if !alike(
+        scope.program.declarations.as_slice(),
+        ValueType::Of(of),
+        type_of(&value),
+    ) {
         return Err(Halt::Stuck(StuckKind::Mismatch));
     }
     tree_of(scope, value)
@@ -236,4 +241,62 @@ fn byte_from(z: i64) -> Result<u8, Halt>
         return Err(Halt::Stuck(StuckKind::BadByteValue));
     }
     Ok(z as u8)
+}
+
+/// The number of the block that `free(e);` makes be gone, or none where nothing is freed.
+pub fn freed<'a>(scope: &Scope<'a>, e: &'a CExpr) -> Result<Option<usize>, Halt>
+    requires { HasRoom scope.now }
+    ensures { Frees scope.now.memory.now result (freed_of (view_at scope.now) scope.now.memory.now e.now) }
+{
+    let value = value_of(scope, e)?;
+    freed_value(scope, &value)
+}
+
+#[tactic(auto, using(crate::proofs::Freeing::no_object, crate::proofs::Freeing::no_scalar, crate::proofs::Freeing::scalar))]
+fn freed_value(scope: &Scope, value: &Value) -> Result<Option<usize>, Halt>
+    ensures { Frees scope.now.memory.now result (m.free_value scope.now.memory.now (worth value.now)) }
+{
+    if !points_to_object(type_of(value)) {
+        return Err(Halt::Stuck(StuckKind::Mismatch));
+    }
+    match held(value) {
+        Ok(content) => freed_content(scope, content),
+        Err(kind) => Err(Halt::Stuck(kind)),
+    }
+}
+
+#[tactic(auto, unfolding(c_meaning::specs::Steps::free_cell))]
+fn freed_content(scope: &Scope, content: Content) -> Result<Option<usize>, Halt>
+    ensures { Frees scope.now.memory.now result (m.free_cell scope.now.memory.now (content_of content.entry)) }
+{
+    match content {
+        Content::Null => Ok(None),
+        Content::Pointer(number, path) => freed_block(scope, number, path),
+        _ => Err(Halt::Stuck(StuckKind::Mismatch)),
+    }
+}
+
+/// Only the start of a block that `malloc` made is freed.
+#[tactic(auto, using(crate::proofs::Freeing::gone, crate::proofs::Freeing::inner, crate::proofs::Freeing::no_heap, crate::proofs::Freeing::heap))]
+fn freed_block(scope: &Scope, number: usize, path: &Path) -> Result<Option<usize>, Halt>
+    ensures { Frees scope.now.memory.now result (m.free_block scope.now.memory.now number path.now (block_at scope.now.memory.now number)) }
+{
+    match scope.memory.get(number) {
+        None => Err(Halt::Stuck(StuckKind::GoneUse)),
+        Some(block) => {
+            if path.len() > 0 {
+                return Err(Halt::Stuck(StuckKind::BadFree));
+            }
+            if !is_heap(block) {
+                return Err(Halt::Stuck(StuckKind::BadFree));
+            }
+            Ok(Some(number))
+        }
+    }
+}
+
+fn is_heap(block: &Block) -> bool
+    ensures { result ≡ block.now.heap }
+{
+    block.heap
 }

@@ -27,7 +27,7 @@ returns-in_err-value c =
     let r = c.from_residual-in_err-value.result in
     let site = site_of c.in_ok-site.site in
     store_with blocks r (m.place v c.args.place.now) site _ c.in_ok-site.ensures
-      (no_store value_of blocks c.in_err-value.field-0.0 r (m.value v c.args.e.now) (put_value v site) c.from_residual-in_err-value.ensures.1 c.in_err-value.ensures)
+    (no_store value_of blocks c.in_err-value.field-0.0 r (m.value v c.args.e.now) (put_value v site) c.from_residual-in_err-value.ensures.1 c.in_err-value.ensures)
 
 pub returns : goal.returns
 unfolding assign
@@ -37,4 +37,4 @@ returns c =
     let r = c.put_value.result in
     let site = site_of c.in_ok-site.site in
     store_with blocks r (m.place v c.args.place.now) site _ c.in_ok-site.ensures
-      (store_with blocks r (m.value v c.args.e.now) (value_of c.in_ok-value.value) (put_value v site) c.in_ok-value.ensures c.put_value.ensures)
+    (store_with blocks r (m.value v c.args.e.now) (value_of c.in_ok-value.value) (put_value v site) c.in_ok-value.ensures c.put_value.ensures)

@@ -27,4 +27,4 @@ returns c =
     let r = c.put_value.result in
     let site = site_of c.in_ok-site.site in
     store_with blocks r (m.place v c.args.place.now) site (λ site. put_value v site (w.int (next_number c.args.byte))) c.in_ok-site.ensures
-      (subst (λ x. Stores blocks r (put_value v site x)) c.next_value.ensures c.put_value.ensures)
+    (subst (λ x. Stores blocks r (put_value v site x)) c.next_value.ensures c.put_value.ensures)

@@ -36,7 +36,7 @@ returns-in-Ok c =
     let s : Store = record { number = c.in-Ok.number; path = c.args.site.path; tree = c.in_ok-tree.tree } in
     let there : m.root_number v at.root ≡ Got c.in-Ok.number = sym c.root_number.ensures ∙ ap (said (λ n. n)) c.in-Ok.is in
     store_with blocks (Ok s) (taken v.declared at.of x) c.in_ok-tree.tree (put_root v at.root at.path) c.in_ok-tree.ensures
-      (sym (root_put scope.program.now scope.reach (names_at scope) blocks at.root at.path c.in_ok-tree.tree c.in-Ok.number there))
+    (sym (root_put scope.program.now scope.reach (names_at scope) blocks at.root at.path c.in_ok-tree.tree c.in-Ok.number there))
 
 pub returns-in-Err : goal.returns-in-Err
 unfolding put_value view
@@ -48,4 +48,4 @@ returns-in-Err c =
     let blocks = scope.memory.now in
     let none : m.root_number v at.root ≡ Bad c.in-Err.kind = sym c.root_number.ensures ∙ ap (said (λ n. n)) c.in-Err.is in
     store_with blocks (Err (Stuck c.in-Err.kind)) (taken v.declared at.of x) c.in_ok-tree.tree (put_root v at.root at.path) c.in_ok-tree.ensures
-      (sym (root_not_put scope.program.now scope.reach (names_at scope) blocks at.root at.path c.in_ok-tree.tree c.in-Err.kind none))
+    (sym (root_not_put scope.program.now scope.reach (names_at scope) blocks at.root at.path c.in_ok-tree.tree c.in-Err.kind none))
