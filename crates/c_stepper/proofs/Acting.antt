@@ -1,25 +1,27 @@
 -- What statements do, by what their parts tell.
-use Rattle.std.proofs.Common.{◌≡◌, ℕ, Bool, true, false, Option, Some, None, List, [], ◌∷◌, ◌++◌, Result, Ok, Err, refl, sym, ap, ◌∙◌, subst}
+use Rattle.std.proofs.Common.{◌≡◌, ℕ, Bool, true, false, Option, Some, None, List, [], ◌∷◌, ◌++◌, length, Result, Ok, Err, refl, sym, ap, ◌∙◌, subst}
 use Rattle.std.specs.Prelude.{ℤ, pos, negsuc, not, nat_lt, if◌then◌else◌}
 use Rattle.std.specs.Result.{IsErrAnd}
 use Rattle.c_tree.specs.Tree as t
-use Rattle.c_tree.specs.Tree.{Statement, Expr, Place}
+use Rattle.c_tree.specs.Tree.{ObjectType, Statement, Expr, Place}
 use Rattle.c_tree.specs.declared.program.CProgram.{CProgram}
 use Rattle.c_meaning.specs.declared.StuckKind.{StuckKind}
 use Rattle.c_meaning.specs.declared.StuckKind.TheVariants as k
-use Rattle.c_meaning.specs.Cells.{Blocks}
+use Rattle.c_meaning.specs.Cells.{Leaf, Pointer, Blocks}
+use Rattle.c_meaning.specs.Types.{Of}
+use Rattle.c_meaning.specs.Fresh.{fresh}
 use Rattle.c_meaning.specs.Answer.{Answer, Got, Bad, ◌>>=◌, when}
-use Rattle.c_meaning.specs.Values.{Value, int, as_int, is_zero}
-use Rattle.c_meaning.specs.Evaluate.{View, value, place}
+use Rattle.c_meaning.specs.Values.{Value, Typed, int, as_int, is_zero}
+use Rattle.c_meaning.specs.Evaluate.{View, Site, value, place}
 use Rattle.c_meaning.specs.States.{State, store}
 use Rattle.c_meaning.specs.Todo.{onto}
-use Rattle.c_meaning.specs.Steps.{Next, Onward, Halted, next, to_do, with_blocks, put_value, assign, get_char, next_byte, after_byte, put_byte, put_char, branch, go_on, do_statement}
+use Rattle.c_meaning.specs.Steps.{Next, Onward, Halted, next, to_do, with_blocks, put_value, malloc, assign, get_char, next_byte, after_byte, put_byte, put_char, branch, go_on, do_statement}
 use Rattle.c_stepper.specs.declared.halt.Halt.{Halt}
 use Rattle.c_stepper.specs.declared.halt.Halt.TheVariants.{Stuck, Memory}
 use Rattle.c_stepper.specs.declared.runner.Runner.{Runner}
 use Rattle.c_stepper.specs.declared.runner.Done.{Done}
 use Rattle.c_stepper.specs.Halts.{Tells}
-use Rattle.c_stepper.specs.Stores.{Stores, byte_of_number, byte_number, byte_put, truth_in, chosen, byte_stored, next_number}
+use Rattle.c_stepper.specs.Stores.{Stores, Frees, address_stored, freed_of, byte_of_number, byte_number, byte_put, truth_in, chosen, byte_stored, next_number}
 use Rattle.c_stepper.specs.Runners.{Acts, first_of}
 
 -- where an evaluation stops, the statement is stuck
@@ -39,6 +41,15 @@ stops_store blocks c new input output calls (Stuck kind) (Err (Stuck k)) a after
 stops_store blocks c new input output calls (Stuck kind) (Err Memory) a after p t h = tt
 stops_store blocks c new input output calls Memory (Err (Stuck k)) a after p t h = cc
 stops_store blocks c new input output calls Memory (Err Memory) a after p t h = tt
+
+-- where no free is told, too
+pub stops_free : (blocks : Blocks) (c : CProgram) (new : Runner) (input output calls : List ℕ) (e : Halt) (r : Result Done Halt) (a : Answer Blocks) (after : Next)
+    → IsErrAnd r (λ x. x ≡ e) → Frees blocks (Err e) a → ((kind : StuckKind) → a ≡ Bad kind → after ≡ Halted kind output) → Acts c new input output calls r after
+stops_free blocks c new input output calls e (Ok x) a after p t h = absurd p
+stops_free blocks c new input output calls (Stuck kind) (Err (Stuck k)) a after p t h = let same : k ≡ kind = cc in ap (λ x. Halted x output) same ∙ sym (h kind (sym t))
+stops_free blocks c new input output calls (Stuck kind) (Err Memory) a after p t h = tt
+stops_free blocks c new input output calls Memory (Err (Stuck k)) a after p t h = cc
+stops_free blocks c new input output calls Memory (Err Memory) a after p t h = tt
 
 -- where the store is refused, too
 pub refused : (c : CProgram) (new : Runner) (input output calls : List ℕ) (kind : StuckKind) (r : Result Done Halt) (after : Next)
@@ -140,3 +151,34 @@ module _ (c : CProgram) (v : View) (st : State) (rest : List Statement) where
   pub read_none : (at : Place) (kind : StuckKind) (byte : Option ℕ) → byte ≡ first_of st.input → byte_stored v at byte ≡ Bad kind → do_statement c v st rest (t.GetChar at) ≡ Halted kind st.output
   unfolding do_statement get_char to_do
   read_none at kind byte is h = blocks_none (place v at >>= (λ site. put_value v site (int (next_byte st.input)))) (record (to_do st rest) { input = after_byte st.input }) kind (ap (λ z. place v at >>= (λ site. put_value v site (int z))) (next_is st.input byte is) ∙ h)
+
+  -- ---- the heap
+
+  malloc_chain : (a : Answer Site) (x : Value) (blocks more : Blocks) → a >>= (λ site. put_value v site x) ≡ Got blocks → a >>= (λ site. put_value v site x >>= (λ stored. Got (stored ++ more))) ≡ Got (blocks ++ more)
+  unfolding ◌>>=◌
+  malloc_chain (Bad kind) x blocks more h = cc
+  malloc_chain (Got site) x blocks more h = ap (λ a. a >>= (λ stored. Got (stored ++ more))) h
+
+  malloc_stuck : (a : Answer Site) (x : Value) (kind : StuckKind) (more : Blocks) → a >>= (λ site. put_value v site x) ≡ Bad kind → a >>= (λ site. put_value v site x >>= (λ stored. Got (stored ++ more))) ≡ Bad kind
+  unfolding ◌>>=◌
+  malloc_stuck (Bad own) x kind more h = let e : own ≡ kind = cc in ap Bad e
+  malloc_stuck (Got site) x kind more h = ap (λ a. a >>= (λ stored. Got (stored ++ more))) h
+
+  pub made : (at : Place) (of : ObjectType) (blocks : Blocks) → address_stored v st.blocks at of ≡ Got blocks
+      → do_statement c v st rest (t.Malloc at of) ≡ Onward (record (to_do st rest) { blocks = blocks ++ Some (record { of = of; tree = fresh false c.declarations of; heap = true }) ∷ [] })
+  unfolding do_statement malloc
+  made at of blocks h = blocks_next (malloc c v st.blocks at of) (to_do st rest) (blocks ++ Some (record { of = of; tree = fresh false c.declarations of; heap = true }) ∷ [])
+      (malloc_chain (place v at) (Typed (Of (t.Pointer of)) (Leaf (Pointer (length st.blocks) []))) blocks (Some (record { of = of; tree = fresh false c.declarations of; heap = true }) ∷ []) h)
+
+  pub made_none : (at : Place) (of : ObjectType) (kind : StuckKind) → address_stored v st.blocks at of ≡ Bad kind → do_statement c v st rest (t.Malloc at of) ≡ Halted kind st.output
+  unfolding do_statement malloc
+  made_none at of kind h = blocks_none (malloc c v st.blocks at of) (to_do st rest) kind
+      (malloc_stuck (place v at) (Typed (Of (t.Pointer of)) (Leaf (Pointer (length st.blocks) []))) kind (Some (record { of = of; tree = fresh false c.declarations of; heap = true }) ∷ []) h)
+
+  pub freed_one : (e : Expr) (blocks : Blocks) → freed_of v st.blocks e ≡ Got blocks → do_statement c v st rest (t.Free e) ≡ Onward (record (to_do st rest) { blocks = blocks })
+  unfolding do_statement
+  freed_one e blocks h = blocks_next (freed_of v st.blocks e) (to_do st rest) blocks h
+
+  pub freed_none : (e : Expr) (kind : StuckKind) → freed_of v st.blocks e ≡ Bad kind → do_statement c v st rest (t.Free e) ≡ Halted kind st.output
+  unfolding do_statement
+  freed_none e kind h = blocks_none (freed_of v st.blocks e) (to_do st rest) kind h

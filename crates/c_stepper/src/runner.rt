@@ -4,7 +4,7 @@ ghost use Rattle.c_tree.specs.Tree as t;
 ghost use Rattle.c_tree.specs.Tree.{body_of};
 ghost use Rattle.c_meaning.specs.Steps as m;
 ghost use Rattle.c_meaning.specs.Steps.{do_statement};
-ghost use Rattle.c_stepper.specs.Stores.{Stores, byte_stored};
+ghost use Rattle.c_stepper.specs.Stores.{Stores, byte_stored, address_stored, without_one, Frees, freed_of};
 ghost use Rattle.c_stepper.specs.Spots.{list_in, todo_at};
 ghost use Rattle.c_stepper.specs.Scopes.{view_at, HasRoom};
 ghost use Rattle.c_stepper.specs.Runners.{state_of, runner_view, body_at, text_at, text_of, first_of, FitsFrame, Acts};
@@ -14,8 +14,9 @@ use crate::halt::Halt;
 use crate::label::find_in;
 use crate::scope::Scope;
 use crate::spot::Spot;
-use crate::store::{Store, assigned, got, put, test};
+use crate::store::{Store, assigned, freed, got, malloced, put, test};
 use c_cells::Path;
+use c_cells::fresh::fresh_block;
 use c_cells::memory::Memory;
 use c_meaning::StuckKind;
 use c_tree::expr::{CExpr, CPlace};
@@ -260,5 +261,71 @@ impl Runner {
             }
             None => Err(Halt::Stuck(StuckKind::UnknownName)),
         }
+    }
+
+    /// The store of `place = malloc(sizeof(of));`: the address of the block that is made next.
+    fn address<'a>(
+        &'a self,
+        program: &'a CProgram,
+        place: &'a CPlace,
+        of: &'a CType,
+    ) -> Result<Store, Halt>
+        requires { FitsFrame program.now self.now.frame }
+        ensures { Stores self.now.memory result (address_stored (runner_view program.now self.now) self.now.memory place.now of.now) }
+    {
+        let scope = self.scope(program);
+        malloced(&scope, place, of)
+    }
+
+    fn malloc(&mut self, program: &CProgram, place: &CPlace, of: &CType) -> Result<Done, Halt>
+        requires fits { FitsFrame program.now self.old.frame }
+        requires small { self.old.frame.spot.at + 1 < 2 ^ 64 }
+        ensures { (input output calls : List ℕ) → Acts program.now self.new input output calls result
+            (do_statement program.now (runner_view program.now self.old) (state_of program.now self.old input output calls)
+            (todo_at (body_at program.now self.old.frame) self.old.frame.spot.outer.items (self.old.frame.spot.at + 1)) (t.Malloc place.now of.now)) }
+    {
+        let declared = program.declarations.as_slice();
+        let block = fresh_block(self.alloc, false, true, declared, of)?;
+        let Store { number, path, tree } = self.address(program, place, of)?;
+        let at = path.as_slice();
+        self.memory.store(number, at, tree)?;
+        self.memory.push(block)?;
+        self.frame.spot.at += 1;
+        Ok(Done::Going)
+    }
+
+    /// The number of the block that `free(e);` makes be gone, or none where nothing is freed.
+    fn freeing<'a>(&'a self, program: &'a CProgram, e: &'a CExpr) -> Result<Option<usize>, Halt>
+        requires { FitsFrame program.now self.now.frame }
+        ensures { Frees self.now.memory result (freed_of (runner_view program.now self.now) self.now.memory e.now) }
+    {
+        let scope = self.scope(program);
+        freed(&scope, e)
+    }
+
+    fn free(&mut self, program: &CProgram, e: &CExpr) -> Result<Done, Halt>
+        requires fits { FitsFrame program.now self.old.frame }
+        requires small { self.old.frame.spot.at + 1 < 2 ^ 64 }
+        ensures { (input output calls : List ℕ) → Acts program.now self.new input output calls result
+            (do_statement program.now (runner_view program.now self.old) (state_of program.now self.old input output calls)
+            (todo_at (body_at program.now self.old.frame) self.old.frame.spot.outer.items (self.old.frame.spot.at + 1)) (t.Free e.now)) }
+    {
+        let which = self.freeing(program, e)?;
+        forget(&mut self.memory, which);
+        self.frame.spot.at += 1;
+        Ok(Done::Going)
+    }
+}
+
+/// Makes a block be gone, where one is named.
+fn forget(memory: &mut Memory, which: Option<usize>)
+    ensures { memory.new ≡ without_one memory.old which }
+{
+    match which {
+        Some(number) => {
+            let gone = memory.remove(number);
+            drop(gone);
+        }
+        None => {}
     }
 }
