@@ -5,6 +5,8 @@
 pub mod cell;
 pub mod fresh;
 pub mod memory;
+#[cfg(test)]
+mod tests;
 pub mod tree;
 
 use tree_lists::Items;

@@ -12,5 +12,7 @@ mod runner;
 mod scope;
 mod spot;
 mod store;
+#[cfg(test)]
+mod tests;
 mod types;
 mod value;
