@@ -1,5 +1,5 @@
 -- Fresh trees, as they are built.
-use Rattle.std.proofs.Common.{◌≡◌, ℕ, zero, suc, ◌+◌, ◌<◌, List, [], ◌∷◌, ◌++◌, map, Bool, true, false, Option, Some, None, refl, sym, ap, ◌∙◌, take, length, reverse, replicate, ◌-◌, ◌≤◌, get_or, arith}
+use Rattle.std.proofs.Common.{◌≡◌, ℕ, zero, suc, ◌<◌, List, [], ◌∷◌, ◌++◌, map, Bool, true, false, refl, sym, ap, ◌∙◌, take, length, reverse, replicate, ◌-◌, ◌≤◌, get_or, arith}
 use Rattle.std.proofs.lemmas.List.{append-nil, take_more, reverse-append}
 use Rattle.std.specs.Str.{bytes_eq}
 use Rattle.c_tree.specs.declared.program.CMember.{CMember}

@@ -1,7 +1,7 @@
 -- Parts of trees.
-use Rattle.std.proofs.Common.{◌≡◌, ℕ, zero, suc, ◌<◌, ◌≤◌, List, [], ◌∷◌, Option, Some, None, refl, sym, ap, ◌∙◌, length, get_or, take, drop, take_all, ◌-◌, arith}
+use Rattle.std.proofs.Common.{◌≡◌, ℕ, zero, suc, ◌<◌, ◌≤◌, List, [], ◌∷◌, Some, None, refl, sym, ap, ◌∙◌, length, get_or, take, drop, take_all, ◌-◌, arith}
 use Rattle.std.specs.Prelude.{slice_get, slice_set}
-use Rattle.c_meaning.specs.Cells.{Cell, Tree, Leaf, Fork, End, child, of_part, part, with_child, with_part}
+use Rattle.c_meaning.specs.Cells.{Cell, Tree, Leaf, Fork, child, of_part, part, with_child, with_part}
 use Rattle.c_cells.specs.Forks.{forks}
 
 pub child_forks : (children : List Tree) (n : ℕ) → child (forks children) n ≡ slice_get children n

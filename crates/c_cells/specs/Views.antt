@@ -1,5 +1,4 @@
 -- What the memory of the runner is seen as.
-use Rattle.std.specs.Prelude.{ℕ, ◌+◌, List, [], ◌∷◌}
 use Rattle.c_meaning.specs.Cells as m
 use Rattle.c_meaning.specs.Cells.{Cell, Tree, Leaf, Fork, End}
 use Rattle.c_cells.specs.declared.cell.CellNode.{CellNode}

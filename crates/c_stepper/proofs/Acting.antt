@@ -1,5 +1,5 @@
 -- What statements do, by what their parts tell.
-use Rattle.std.proofs.Common.{◌≡◌, ℕ, Bool, true, false, Option, Some, None, List, [], ◌∷◌, ◌++◌, length, Result, Ok, Err, refl, sym, ap, ◌∙◌, subst}
+use Rattle.std.proofs.Common.{◌≡◌, ℕ, Bool, true, false, Option, Some, List, [], ◌∷◌, ◌++◌, length, Result, Ok, Err, refl, sym, ap, ◌∙◌}
 use Rattle.std.specs.Prelude.{ℤ, pos, negsuc, not, nat_lt, if◌then◌else◌}
 use Rattle.std.specs.Result.{IsErrAnd}
 use Rattle.c_tree.specs.Tree as t
@@ -13,8 +13,7 @@ use Rattle.c_meaning.specs.Fresh.{fresh}
 use Rattle.c_meaning.specs.Answer.{Answer, Got, Bad, ◌>>=◌, when}
 use Rattle.c_meaning.specs.Values.{Value, Typed, int, as_int, is_zero}
 use Rattle.c_meaning.specs.Evaluate.{View, Site, value, place}
-use Rattle.c_meaning.specs.States.{State, store}
-use Rattle.c_meaning.specs.Todo.{onto}
+use Rattle.c_meaning.specs.States.{State}
 use Rattle.c_meaning.specs.Steps.{Next, Onward, Halted, next, to_do, with_blocks, put_value, malloc, assign, get_char, next_byte, after_byte, put_byte, put_char, branch, go_on, do_statement}
 use Rattle.c_stepper.specs.declared.halt.Halt.{Halt}
 use Rattle.c_stepper.specs.declared.halt.Halt.TheVariants.{Stuck, Memory}

@@ -1,14 +1,14 @@
 -- A cast, one step after another.
-use Rattle.std.proofs.Common.{◌≡◌, Bool, true, false, ◌||◌, refl, sym, ap, ◌∙◌}
+use Rattle.std.proofs.Common.{◌≡◌, true, false, ◌||◌, refl, ap, ◌∙◌}
 use Rattle.c_tree.specs.Tree as t
 use Rattle.c_tree.specs.declared.operators.CCast.{CCast}
 use Rattle.c_tree.specs.declared.operators.CCast.TheVariants as to
 use Rattle.c_meaning.specs.declared.StuckKind.{StuckKind}
 use Rattle.c_meaning.specs.declared.StuckKind.TheVariants as k
 use Rattle.c_meaning.specs.Cells.{Cell}
-use Rattle.c_meaning.specs.Answer.{Answer, Got, Bad, ◌>>=◌, when}
+use Rattle.c_meaning.specs.Answer.{Got, Bad, ◌>>=◌, when}
 use Rattle.c_meaning.specs.Types.{points_to_object}
-use Rattle.c_meaning.specs.Values.{Value, Typed, leaf, int_of_cell, word_of_cell}
+use Rattle.c_meaning.specs.Values.{Value, Typed, leaf}
 use Rattle.c_meaning.specs.Evaluate.{View, retyped, struct_pointer, cast}
 use Rattle.c_stepper.specs.Values.{tree_in, type_in}
 use Rattle.c_stepper.specs.Casts.{is_number, cast_cell}

@@ -1,5 +1,5 @@
 -- Evaluation, one step after another.
-use Rattle.std.proofs.Common.{◌≡◌, Bool, true, false, Result, Ok, Err, refl, sym, ap, ◌∙◌, subst}
+use Rattle.std.proofs.Common.{◌≡◌, true, false, Result, Ok, Err, refl, ap, ◌∙◌, subst}
 use Rattle.std.specs.Prelude.{ℤ, pos, List, Option, Some, None, if◌then◌else◌}
 use Rattle.std.specs.Result.{IsErrAnd}
 use Rattle.c_meaning.specs.declared.StuckKind.{StuckKind}

@@ -1,15 +1,15 @@
 -- What fits 64 bits.
-use Rattle.std.proofs.Common.{◌≡◌, ◌≢◌, ℕ, zero, suc, ◌^◌, ◌<◌, Bool, true, false, refl, sym, ap, ◌∙◌, subst, eqb, arith, w64}
-use Rattle.std.specs.Prelude.{ℤ, pos, negsuc, neg_ℤ, int_div, int_rem, not, FitsSigned, unsigned_abs}
+use Rattle.std.proofs.Common.{◌≡◌, ◌≢◌, ℕ, zero, suc, ◌^◌, ◌<◌, true, false, refl, ap, ◌∙◌, eqb, arith, w64}
+use Rattle.std.specs.Prelude.{ℤ, pos, negsuc, int_div, int_rem, not, FitsSigned}
 use Rattle.std.proofs.lemmas.Int.{ints, rem_below}
 use Rattle.std.proofs.lemmas.Bool.Decides.{nat_tests}
 use Rattle.std.specs.Int.{cast_unsigned, cast_signed}
 use Rattle.c_tree.specs.Tree as t
 use Rattle.c_meaning.specs.declared.StuckKind.TheVariants as k
 use Rattle.c_meaning.specs.Cells.{Leaf, Int}
-use Rattle.c_meaning.specs.Answer.{Answer, Got, Bad, when}
+use Rattle.c_meaning.specs.Answer.{Got, Bad, when}
 use Rattle.c_meaning.specs.Types.{Of}
-use Rattle.c_meaning.specs.Values.{Value, Typed, int, fits_int, exact, is_zero, divided, to_int, to_word, complement}
+use Rattle.c_meaning.specs.Values.{Typed, int, fits_int, exact, is_zero, divided, to_int, to_word, complement}
 
 fits_true : (z : ℤ) → FitsSigned w64 z → fits_int z ≡ true
 unfolding fits_int

@@ -1,5 +1,5 @@
 -- The way to a label leads to the statements that its search gives.
-use Rattle.std.proofs.Common.{◌≡◌, ◌≤◌, max, ℕ, zero, suc, ◌+◌, List, [], ◌∷◌, ◌++◌, drop, Bool, true, false, Option, Some, None, refl, sym, ap, ◌∙◌, arith, append_assoc, append-nil, get_or, length, ◌<◌}
+use Rattle.std.proofs.Common.{◌≡◌, ◌≤◌, ℕ, zero, suc, ◌+◌, List, [], ◌∷◌, ◌++◌, drop, Bool, true, false, Option, Some, None, refl, sym, ap, ◌∙◌, arith, append_assoc, append-nil, get_or, length, ◌<◌}
 use Rattle.std.proofs.lemmas.Option.{slice_get_read}
 use Rattle.c_stepper.proofs.Todo.{drop_next, onto_append}
 use Rattle.std.specs.Prelude.{slice_get, if◌then◌else◌}
@@ -11,7 +11,6 @@ use Rattle.c_meaning.specs.Cells.{Name}
 use Rattle.c_meaning.specs.Todo.{onto, from_label, from_label_in, from_label_of}
 use Rattle.c_stepper.specs.Spots.{branch_of, branch_at, after_of, todo_at}
 use Rattle.c_stepper.specs.Labels.{Way, or_way, inside, last, levels, path_statement, path_in, path_of}
-use Rattle.c_stepper.specs.declared.spot.Level.{Level}
 
 pub path_list : (l : Name) (i : ℕ) (a : List Statement) → path_in l i (body_of a) ≡ path_of l i a
 path_list l i [] = refl

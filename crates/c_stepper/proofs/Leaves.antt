@@ -1,11 +1,10 @@
 -- The cell of a scalar.
 use Rattle.std.proofs.Common.{◌≡◌, ℕ, List, [], ◌∷◌, refl}
 use Rattle.std.specs.Prelude.{ℤ}
-use Rattle.c_meaning.specs.declared.StuckKind.{StuckKind}
 use Rattle.c_meaning.specs.declared.StuckKind.TheVariants as k
 use Rattle.c_meaning.specs.Cells.{Cell, Int, Word, Tree, Leaf}
-use Rattle.c_meaning.specs.Answer.{Answer, Got, Bad, ◌>>=◌}
-use Rattle.c_meaning.specs.Types.{ValueType, Of}
+use Rattle.c_meaning.specs.Answer.{Got, Bad, ◌>>=◌}
+use Rattle.c_meaning.specs.Types.{ValueType}
 use Rattle.c_meaning.specs.Values.{Typed, leaf, as_int, as_word, int_cell, word_cell}
 use Rattle.c_cells.specs.Forks.{forks}
 

@@ -1,8 +1,6 @@
 -- Parts of types.
-use Rattle.std.proofs.Common.{◌≡◌, ℕ, zero, suc, ◌≤◌, ◌<◌, Bool, true, false, List, [], ◌∷◌, Option, Some, None, refl, sym, ap, ◌∙◌, arith, w64}
-use Rattle.std.specs.Prelude.{slice_get, nat_lt, if◌then◌else◌, ℤ, pos, negsuc}
-use Rattle.std.specs.Int.{cast_unsigned, cast_signed}
-use Rattle.std.proofs.lemmas.Int.{ints}
+use Rattle.std.proofs.Common.{◌≡◌, ℕ, zero, suc, ◌≤◌, ◌<◌, true, false, List, [], ◌∷◌, Some, None, refl, ap, ◌∙◌, arith}
+use Rattle.std.specs.Prelude.{slice_get, nat_lt, if◌then◌else◌}
 use Rattle.std.proofs.lemmas.Bool.Decides.{nat_tests}
 use Rattle.c_tree.specs.Tree as t
 use Rattle.c_tree.specs.Tree.{ObjectType}
@@ -10,9 +8,9 @@ use Rattle.c_tree.specs.declared.program.CMember.{CMember}
 use Rattle.c_tree.specs.declared.program.CDeclaration.{CDeclaration}
 use Rattle.c_meaning.specs.declared.StuckKind.{StuckKind}
 use Rattle.c_meaning.specs.declared.StuckKind.TheVariants as k
-use Rattle.c_meaning.specs.Cells.{Name, Cell, Pointer, Block}
+use Rattle.c_meaning.specs.Cells.{Name, Pointer, Block}
 use Rattle.c_meaning.specs.Answer.{Answer, Got, Bad, ◌>>=◌, or_bad, when}
-use Rattle.c_meaning.specs.Types.{PlaceType, Plain, Array, member_type, type_at, child_type}
+use Rattle.c_meaning.specs.Types.{Plain, Array, member_type, type_at, child_type}
 use Rattle.c_meaning.specs.Values.{Value}
 use Rattle.c_meaning.specs.Evaluate.{View, holds_type, retyped, struct_pointer}
 

@@ -1,5 +1,5 @@
 -- Steps into places.
-use Rattle.std.proofs.Common.{◌≡◌, ℕ, ◌≤◌, ◌<◌, Bool, true, false, List, Option, Some, None, refl, sym, ap, ◌∙◌, arith, w64}
+use Rattle.std.proofs.Common.{◌≡◌, ℕ, ◌≤◌, ◌<◌, true, false, List, Some, None, refl, ap, ◌∙◌, arith, w64}
 use Rattle.std.specs.Prelude.{ℤ, pos, negsuc, ◌<ℤ◌, ◌≤ℤ◌, nat_lt}
 use Rattle.std.specs.Int.{cast_unsigned}
 use Rattle.std.proofs.lemmas.Int.{ints}
@@ -10,8 +10,8 @@ use Rattle.c_tree.specs.declared.program.CMember.{CMember}
 use Rattle.c_tree.specs.declared.program.CDeclaration.{CDeclaration}
 use Rattle.c_meaning.specs.declared.StuckKind.TheVariants as k
 use Rattle.c_meaning.specs.Cells.{Name}
-use Rattle.c_meaning.specs.Answer.{Answer, Got, Bad, ◌>>=◌, or_bad, when}
-use Rattle.c_meaning.specs.Types.{PlaceType, Plain, Array, Step, members_of, member_from}
+use Rattle.c_meaning.specs.Answer.{Got, Bad, ◌>>=◌, or_bad, when}
+use Rattle.c_meaning.specs.Types.{Plain, Array, Step, members_of, member_from}
 use Rattle.c_meaning.specs.Evaluate.{member, element}
 
 module _ (ds : List CDeclaration) (n s : Name) where

@@ -1,16 +1,15 @@
 -- Reading cells.
-use Rattle.std.proofs.Common.{◌≡◌, ℕ, List, Option, Some, None, refl, sym, ap, ◌∙◌}
-use Rattle.std.specs.Prelude.{ℤ, pos}
+use Rattle.std.proofs.Common.{◌≡◌, ℕ, List, Some, None, refl, ap, ◌∙◌}
 use Rattle.c_tree.specs.Tree as t
 use Rattle.c_tree.specs.Tree.{ObjectType}
 use Rattle.c_meaning.specs.declared.StuckKind.{StuckKind}
 use Rattle.c_meaning.specs.declared.StuckKind.TheVariants as k
-use Rattle.c_meaning.specs.Cells.{Cell, Pointer, Block, Tree, Leaf, part}
-use Rattle.c_meaning.specs.Answer.{Answer, Got, Bad, ◌>>=◌, or_bad}
+use Rattle.c_meaning.specs.Cells.{Pointer, Block, Tree, Leaf, part}
+use Rattle.c_meaning.specs.Answer.{Got, Bad, ◌>>=◌, or_bad}
 use Rattle.c_meaning.specs.Values.{Value, Typed, leaf, value_of}
 use Rattle.c_meaning.specs.Evaluate.{View, Site, At, read_cell, read_as, root_block, root_number, load, follow_cell, follow, pointer_to, address}
 use Rattle.c_meaning.specs.Types.{Plain, Signature, Of, AnyPointer, Routine}
-use Rattle.c_stepper.specs.Values.{tree_in, type_in}
+use Rattle.c_stepper.specs.Values.{type_in}
 use Rattle.c_stepper.specs.Scopes.{part_value, follow_leaf}
 use Rattle.c_stepper.specs.Types.{target_of}
 

@@ -1,5 +1,5 @@
 -- Lists of types, compared one after another.
-use Rattle.std.proofs.Common.{◌≡◌, ℕ, ◌-◌, ◌≤◌, Bool, true, false, List, [], ◌∷◌, ◌&&◌, map, take, drop, length, get_or, take_all, refl, sym, ap, ◌∙◌, arith}
+use Rattle.std.proofs.Common.{◌≡◌, ◌-◌, ◌≤◌, true, false, List, [], ◌∷◌, ◌&&◌, map, take, drop, length, get_or, take_all, sym, ap, ◌∙◌, arith}
 use Rattle.c_tree.specs.Tree.{ObjectType}
 use Rattle.c_tree.specs.declared.program.CVariable.{CVariable}
 use Rattle.c_meaning.specs.States.{variable_type}

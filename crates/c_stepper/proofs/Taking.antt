@@ -1,5 +1,5 @@
 -- What places take of values.
-use Rattle.std.proofs.Common.{◌≡◌, ℕ, ◌≤◌, ◌<◌, Bool, true, false, Option, Some, None, List, Result, Ok, Err, refl, sym, ap, ◌∙◌, subst, arith}
+use Rattle.std.proofs.Common.{◌≡◌, ℕ, ◌<◌, true, false, Some, None, List, Result, Ok, Err, refl, sym, ap, ◌∙◌, subst, arith}
 use Rattle.std.specs.Prelude.{ℤ, pos, negsuc, ◌<ℤ◌, nat_lt, not}
 use Rattle.std.specs.Result.{IsErrAnd}
 use Rattle.std.proofs.lemmas.Int.{ints}
@@ -14,9 +14,9 @@ use Rattle.c_meaning.specs.Cells.{Tree, Leaf, Byte, Blocks}
 use Rattle.c_meaning.specs.Answer.{Answer, Got, Bad, ◌>>=◌, or_bad, when}
 use Rattle.c_meaning.specs.Types.{Of, alike}
 use Rattle.c_meaning.specs.Values.{Value, Typed, as_int, is_zero, byte_of, converted}
-use Rattle.c_meaning.specs.Evaluate.{View, Root, Named, At, Site, root_number, place, value}
+use Rattle.c_meaning.specs.Evaluate.{Root, Named, At, root_number}
 use Rattle.c_meaning.specs.States.{Names, view, number_of, store, store_named}
-use Rattle.c_meaning.specs.Steps.{taken, put_root, put_value, assign}
+use Rattle.c_meaning.specs.Steps.{put_root}
 use Rattle.c_stepper.specs.declared.halt.Halt.{Halt}
 use Rattle.c_stepper.specs.declared.halt.Halt.TheVariants.{Stuck, Memory}
 use Rattle.c_stepper.specs.declared.store.Store.{Store}

@@ -1,11 +1,11 @@
 -- The statements still to do, as the place moves.
-use Rattle.std.proofs.Common.{◌≡◌, ℕ, zero, suc, ◌+◌, ◌<◌, ◌≤◌, List, [], ◌∷◌, ◌++◌, drop, length, Bool, true, false, Option, Some, None, refl, sym, ap, ◌∙◌, arith, append_assoc, get_or, inl, inr, ◌⊎◌, ◌&&◌}
+use Rattle.std.proofs.Common.{◌≡◌, ℕ, zero, suc, ◌+◌, ◌<◌, ◌≤◌, List, [], ◌∷◌, ◌++◌, drop, length, Bool, true, false, Some, None, refl, sym, ap, ◌∙◌, arith, append_assoc, get_or, inl, inr, ◌⊎◌}
 use Rattle.std.specs.Prelude.{slice_get, not, if◌then◌else◌}
 use Rattle.c_tree.specs.Tree as m
 use Rattle.c_tree.specs.Tree.{Expr, Statement, Body, Empty, Then, list_of, body_of, list_of-body_of}
 use Rattle.c_meaning.specs.Todo.{onto}
 use Rattle.std.proofs.lemmas.Option.{slice_get-get_or}
-use Rattle.c_stepper.specs.Spots.{branch_of, branch_at, list_in, after_of, todo_at}
+use Rattle.c_stepper.specs.Spots.{branch_at, list_in, after_of, todo_at}
 use Rattle.c_stepper.specs.declared.spot.Level.{Level}
 
 pub drop_all : (list : List Statement) (n : ℕ) → length list ≤ n → drop n list ≡ []

@@ -1,7 +1,7 @@
 -- What evaluation sees, and the places that it reckons with.
-use Rattle.std.specs.Prelude.{ℕ, ◌+◌, ◌<◌, ◌^◌, ◌++◌, length}
+use Rattle.std.specs.Prelude.{◌+◌, ◌<◌, ◌^◌, ◌++◌, length}
 use Rattle.c_meaning.specs.declared.StuckKind.TheVariants as k
-use Rattle.c_meaning.specs.Cells.{Name, Block, part}
+use Rattle.c_meaning.specs.Cells.{Block, part}
 use Rattle.c_meaning.specs.Answer.{Answer, or_bad, ◌>>=◌}
 use Rattle.c_meaning.specs.Values.{Value, leaf}
 use Rattle.c_meaning.specs.Types as t

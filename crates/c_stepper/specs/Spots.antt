@@ -1,5 +1,5 @@
 -- Where a function stands in its body, and what it has still to do.
-use Rattle.std.specs.Prelude.{ℕ, ◌+◌, Bool, true, false, if◌then◌else◌, List, [], ◌∷◌, ◌++◌, drop, Option, Some, None, slice_get, nat_lt}
+use Rattle.std.specs.Prelude.{ℕ, ◌+◌, Bool, if◌then◌else◌, List, [], ◌∷◌, ◌++◌, drop, Option, Some, None, slice_get}
 use Rattle.c_tree.specs.Tree as m
 use Rattle.c_tree.specs.Tree.{Statement, list_of}
 use Rattle.c_stepper.specs.declared.spot.Level.{Level}

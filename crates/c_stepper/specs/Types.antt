@@ -1,5 +1,5 @@
 -- The types that the runner reckons with, as types of the meaning.
-use Rattle.std.specs.Prelude.{ℕ, zero, suc, map, List, Option, Some, None, Bool, true, false}
+use Rattle.std.specs.Prelude.{ℕ, zero, suc, map, Option, Some, None, Bool, true, false}
 use Rattle.c_tree.specs.Tree as t
 use Rattle.c_tree.specs.Tree.{ObjectType}
 use Rattle.c_tree.specs.declared.program.CTypedef.{CTypedef}

@@ -1,13 +1,8 @@
-use Rattle.std.proofs.Common.{◌≡◌, ◌∙◌, sym, ap, subst, true, false}
-use Rattle.c_tree.specs.Tree as t
-use Rattle.c_meaning.specs.declared.StuckKind.TheVariants as k
-use Rattle.c_meaning.specs.Answer.{Answer, Got, Bad, or_bad}
+use Rattle.std.proofs.Common.{◌≡◌, ◌∙◌, sym, ap, true}
+use Rattle.c_meaning.specs.Answer.{Bad}
 use Rattle.c_meaning.specs.Values as w
-use Rattle.c_meaning.specs.Evaluate as m
-use Rattle.c_meaning.specs.Evaluate.{View}
-use Rattle.c_meaning.specs.States.{view}
-use Rattle.c_stepper.specs.Halts.{said, Tells}
-use Rattle.c_stepper.specs.Values.{value_of, content_of, now_of, tree_in, type_in}
+use Rattle.c_stepper.specs.Halts.{said}
+use Rattle.c_stepper.specs.Values.{value_of, content_of, tree_in, type_in}
 use Rattle.c_stepper.specs.Scopes.{view_at}
 use Rattle.std.proofs.Common.{◌||◌}
 use Rattle.c_meaning.specs.Types.{points_to_object}

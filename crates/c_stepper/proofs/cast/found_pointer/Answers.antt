@@ -1,13 +1,12 @@
 use Rattle.std.proofs.Common.{◌≡◌, ◌∙◌, sym, ap, subst, true, false}
 use Rattle.c_tree.specs.Tree as t
 use Rattle.c_meaning.specs.declared.StuckKind.TheVariants as k
-use Rattle.c_meaning.specs.Answer.{Answer, Got, Bad, or_bad}
-use Rattle.c_meaning.specs.Values as w
+use Rattle.c_meaning.specs.Answer.{Got, Bad, or_bad}
 use Rattle.c_meaning.specs.Evaluate as m
 use Rattle.c_meaning.specs.Evaluate.{View}
 use Rattle.c_meaning.specs.States.{view}
 use Rattle.c_stepper.specs.Halts.{said, Tells}
-use Rattle.c_stepper.specs.Values.{value_of, content_of, now_of, tree_in, type_in}
+use Rattle.c_stepper.specs.Values.{value_of, now_of}
 use Rattle.c_stepper.specs.Scopes.{view_at}
 use Rattle.c_stepper.proofs.Parts.{pointer_gone, pointer_unlike, pointer_alike}
 use Rattle.c_stepper.proofs.cast.found_pointer.Goals as goal

@@ -1,4 +1,4 @@
-use Rattle.std.proofs.Common.{◌≡◌, length, drop, Some}
+use Rattle.std.proofs.Common.{◌≡◌, length, Some}
 use Rattle.c_meaning.specs.Types.{part_type}
 use Rattle.c_stepper.specs.Types.{place_type_of}
 use Rattle.c_stepper.proofs.cast.part_type.Given as goal

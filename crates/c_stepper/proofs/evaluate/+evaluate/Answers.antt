@@ -1,12 +1,12 @@
-use Rattle.std.proofs.Common.{◌≡◌, ◌∙◌, sym, ap, subst, Ok, Err, Some, None}
+use Rattle.std.proofs.Common.{◌≡◌, ◌∙◌, sym, ap, subst, Ok, Some, None}
 use Rattle.std.specs.Option.{option_map, option_copied}
 use Rattle.c_tree.specs.Tree as t
-use Rattle.c_meaning.specs.Answer.{Answer, Got, Bad}
+use Rattle.c_meaning.specs.Answer.{Got}
 use Rattle.c_meaning.specs.Values as w
 use Rattle.c_meaning.specs.Values.{int, word}
 use Rattle.c_meaning.specs.Evaluate as m
 use Rattle.c_meaning.specs.Evaluate.{View, value, place}
-use Rattle.c_stepper.specs.Halts.{said, Tells}
+use Rattle.c_stepper.specs.Halts.{Tells}
 use Rattle.c_stepper.specs.Values.{value_of}
 use Rattle.c_stepper.specs.Scopes.{view_at, site_of}
 use Rattle.c_stepper.specs.Evaluations.{onto_member, onto_element, decision, name_in}

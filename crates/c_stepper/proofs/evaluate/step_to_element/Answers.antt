@@ -1,12 +1,12 @@
-use Rattle.std.proofs.Common.{◌≡◌, ◌∙◌, sym, ap, subst, rules, w64}
+use Rattle.std.proofs.Common.{◌≡◌, ◌∙◌, sym, ap, rules, w64}
 use Rattle.std.specs.Prelude.{FitsSigned}
 use Rattle.std.proofs.lemmas.Int.{to_z-of_z}
-use Rattle.c_meaning.specs.Answer.{Answer, Got, Bad}
+use Rattle.c_meaning.specs.Answer.{Got, Bad}
 use Rattle.c_meaning.specs.Values as w
 use Rattle.c_meaning.specs.Evaluate as m
-use Rattle.c_stepper.specs.Halts.{said, Tells}
+use Rattle.c_stepper.specs.Halts.{said}
 use Rattle.c_stepper.specs.Values.{value_of}
-use Rattle.c_stepper.specs.Scopes.{view_at, site_of, step_of}
+use Rattle.c_stepper.specs.Scopes.{site_of, step_of}
 use Rattle.c_stepper.specs.Types.{place_type_of}
 use Rattle.c_stepper.proofs.Evaluations.{no_number, no_element}
 use Rattle.c_stepper.proofs.evaluate.step_to_element.Goals as goal

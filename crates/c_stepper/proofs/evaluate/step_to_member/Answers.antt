@@ -1,11 +1,8 @@
-use Rattle.std.proofs.Common.{◌≡◌, ◌∙◌, sym, ap, subst}
-use Rattle.c_meaning.specs.Answer.{Answer, Got, Bad}
-use Rattle.c_meaning.specs.Values as w
+use Rattle.std.proofs.Common.{◌≡◌, ◌∙◌, sym, ap}
+use Rattle.c_meaning.specs.Answer.{Got, Bad}
 use Rattle.c_meaning.specs.Evaluate as m
-use Rattle.c_stepper.specs.Halts.{said, Tells}
-use Rattle.c_stepper.specs.Values.{value_of}
+use Rattle.c_stepper.specs.Halts.{said}
 use Rattle.c_stepper.specs.Scopes.{view_at, site_of, step_of}
-use Rattle.c_stepper.specs.Types.{place_type_of}
 use Rattle.c_meaning.specs.States.{view}
 use Rattle.c_stepper.proofs.Evaluations.{no_member, to_member}
 use Rattle.c_stepper.proofs.evaluate.step_to_member.Goals as goal

@@ -1,4 +1,4 @@
-use Rattle.std.proofs.Common.{◌≡◌, ◌+◌, ◌++◌, false, true, None, refl, sym, ap, ◌∙◌, arith, append-nil}
+use Rattle.std.proofs.Common.{◌≡◌, ◌++◌, false, true, None, sym, ap, ◌∙◌, arith, append-nil}
 use Rattle.c_tree.specs.Tree as m
 use Rattle.c_tree.specs.Tree.{body_of}
 use Rattle.c_stepper.specs.Labels.{path_of, path_statement, levels, last, inside}

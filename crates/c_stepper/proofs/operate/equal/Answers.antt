@@ -1,11 +1,10 @@
-use Rattle.std.proofs.Common.{◌≡◌, ◌∙◌, sym, ap, true, false}
+use Rattle.std.proofs.Common.{◌≡◌, ◌∙◌, sym, ap, true}
 use Rattle.c_meaning.specs.Answer.{Got, Bad}
 use Rattle.c_meaning.specs.Types.{alike}
 use Rattle.c_meaning.specs.Values.{leaf}
 use Rattle.c_stepper.proofs.Binary.{equal_left, equal_right, equal_both}
 use Rattle.c_stepper.specs.Halts.{said}
 use Rattle.c_stepper.specs.Values.{value_of, content_of, tree_in, type_in}
-use Rattle.c_stepper.specs.Operators.{of_ints, of_words, of_shift}
 use Rattle.c_stepper.proofs.operate.equal.Goals as goal
 
 pub returns-in-Ok-Ok : goal.returns-in-Ok-Ok

@@ -1,10 +1,10 @@
-use Rattle.std.proofs.Common.{◌≡◌, ◌∙◌, sym, ap, true, false}
+use Rattle.std.proofs.Common.{◌≡◌, ◌∙◌, sym, ap}
 use Rattle.c_meaning.specs.Answer.{Got, Bad}
 use Rattle.c_meaning.specs.Values.{as_word}
 use Rattle.c_stepper.proofs.Binary.{words_left, words_right}
 use Rattle.c_stepper.specs.Halts.{said}
-use Rattle.c_stepper.specs.Values.{value_of, content_of, tree_in, type_in}
-use Rattle.c_stepper.specs.Operators.{of_ints, of_words, of_shift}
+use Rattle.c_stepper.specs.Values.{value_of}
+use Rattle.c_stepper.specs.Operators.{of_words}
 use Rattle.c_stepper.proofs.operate.on_words.Goals as goal
 
 pub returns-in-Ok-Err : goal.returns-in-Ok-Err

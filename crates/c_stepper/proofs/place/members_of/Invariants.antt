@@ -1,4 +1,4 @@
-use Rattle.std.proofs.Common.{◌≡◌, length, drop}
+use Rattle.std.proofs.Common.{◌≡◌, length}
 use Rattle.c_meaning.specs.Types.{members_of}
 use Rattle.c_stepper.proofs.place.members_of.Given as goal
 

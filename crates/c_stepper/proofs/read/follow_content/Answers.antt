@@ -1,15 +1,13 @@
-use Rattle.std.proofs.Common.{◌≡◌, ◌∙◌, sym, ap, subst, Some, None}
-use Rattle.std.specs.Option.{option_copied}
+use Rattle.std.proofs.Common.{◌≡◌, ◌∙◌, sym, ap}
 use Rattle.c_meaning.specs.declared.StuckKind.TheVariants as k
-use Rattle.c_meaning.specs.Cells.{Pointer, part}
-use Rattle.c_meaning.specs.Answer.{Answer, Got, Bad, or_bad}
-use Rattle.c_meaning.specs.Values as w
+use Rattle.c_meaning.specs.Cells.{Pointer}
+use Rattle.c_meaning.specs.Answer.{Bad, or_bad}
 use Rattle.c_meaning.specs.Evaluate as m
 use Rattle.c_meaning.specs.Evaluate.{View}
-use Rattle.c_stepper.specs.Halts.{said, Tells}
-use Rattle.c_stepper.specs.Types.{object_of, place_type_of}
-use Rattle.c_stepper.specs.Values.{value_of, content_of, now_of, tree_in}
-use Rattle.c_stepper.specs.Scopes.{view_at, site_of, root_of, part_value, follow_leaf}
+use Rattle.c_stepper.specs.Halts.{said}
+use Rattle.c_stepper.specs.Types.{object_of}
+use Rattle.c_stepper.specs.Values.{content_of, now_of}
+use Rattle.c_stepper.specs.Scopes.{view_at}
 use Rattle.c_stepper.proofs.Reading.{follow_gone}
 use Rattle.c_stepper.proofs.read.follow_content.Goals as goal
 

@@ -1,4 +1,4 @@
-use Rattle.std.proofs.Common.{◌≡◌, length, drop}
+use Rattle.std.proofs.Common.{◌≡◌, length}
 use Rattle.c_meaning.specs.States.{announced}
 use Rattle.c_stepper.proofs.scope.announced.Given as goal
 

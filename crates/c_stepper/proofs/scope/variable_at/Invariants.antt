@@ -1,4 +1,4 @@
-use Rattle.std.proofs.Common.{◌≡◌, length, drop}
+use Rattle.std.proofs.Common.{◌≡◌, drop}
 use Rattle.c_meaning.specs.States.{global_from}
 use Rattle.c_stepper.proofs.scope.variable_at.Given as goal
 

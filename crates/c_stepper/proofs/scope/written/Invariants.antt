@@ -1,4 +1,4 @@
-use Rattle.std.proofs.Common.{◌≡◌, length, drop}
+use Rattle.std.proofs.Common.{◌≡◌, length}
 use Rattle.c_meaning.specs.States.{written}
 use Rattle.c_stepper.proofs.scope.written.Given as goal
 

@@ -1,18 +1,14 @@
-use Rattle.std.proofs.Common.{◌≡◌, ◌∙◌, sym, ap, subst, Ok, Err, Bool, ℕ, List, [], length}
+use Rattle.std.proofs.Common.{subst, [], length}
 use Rattle.c_tree.specs.Tree as t
 use Rattle.c_meaning.specs.Cells.{Leaf, Pointer}
-use Rattle.c_meaning.specs.Answer.{Answer, Got, Bad}
 use Rattle.c_meaning.specs.Types.{Of}
 use Rattle.c_meaning.specs.Values as w
 use Rattle.c_meaning.specs.Evaluate as m
 use Rattle.c_meaning.specs.Evaluate.{View}
 use Rattle.c_meaning.specs.Steps.{put_value}
-use Rattle.c_stepper.specs.Halts.{said, Tells}
-use Rattle.c_stepper.specs.Stores.{Stores, next_number, byte_number, byte_of_number, truth_in}
-use Rattle.c_stepper.specs.Values.{value_of}
+use Rattle.c_stepper.specs.Stores.{Stores}
 use Rattle.c_stepper.specs.Scopes.{view_at, site_of}
-use Rattle.c_stepper.proofs.Taking.{no_store, store_with, some_put}
-use Rattle.c_stepper.proofs.Evaluations.{exit, onward_with}
+use Rattle.c_stepper.proofs.Taking.{no_store, store_with}
 use Rattle.c_stepper.proofs.store.malloced.Goals as goal
 
 pub returns-in_err-site : goal.returns-in_err-site

@@ -1,13 +1,11 @@
-use Rattle.std.proofs.Common.{◌≡◌, ◌∙◌, sym, ap, subst, Ok, Err}
+use Rattle.std.proofs.Common.{◌≡◌, ◌∙◌, sym, ap, Ok, Err}
 use Rattle.c_meaning.specs.Cells.{Tree}
-use Rattle.c_meaning.specs.Answer.{Answer, Got, Bad}
+use Rattle.c_meaning.specs.Answer.{Got, Bad}
 use Rattle.c_meaning.specs.Evaluate as m
 use Rattle.c_meaning.specs.Evaluate.{View}
 use Rattle.c_meaning.specs.States.{view}
-use Rattle.c_meaning.specs.Steps.{taken, put_root, put_value, assign}
-use Rattle.c_stepper.specs.Halts.{said, Tells}
-use Rattle.c_stepper.specs.Stores.{Stores}
-use Rattle.c_stepper.specs.Types.{place_type_of}
+use Rattle.c_meaning.specs.Steps.{taken, put_root, put_value}
+use Rattle.c_stepper.specs.Halts.{said}
 use Rattle.c_stepper.specs.Values.{value_of}
 use Rattle.c_stepper.specs.Scopes.{view_at, site_of, names_at}
 use Rattle.c_stepper.proofs.Taking.{root_put, root_not_put, no_store, store_with}

@@ -1,4 +1,4 @@
-use Rattle.std.proofs.Common.{◌≡◌, ◌∙◌, sym, ap, arith, true, false}
+use Rattle.std.proofs.Common.{◌≡◌, ◌∙◌, sym, arith, true, false}
 use Rattle.c_meaning.specs.Types.{type_eq}
 use Rattle.c_stepper.proofs.Signatures.{variables_differ, variables_go_on}
 use Rattle.c_stepper.proofs.types.same_variables.Goals as goal

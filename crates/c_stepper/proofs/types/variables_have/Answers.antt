@@ -1,4 +1,4 @@
-use Rattle.std.proofs.Common.{◌≡◌, ◌∙◌, sym, ap, arith, true, false}
+use Rattle.std.proofs.Common.{◌≡◌, ◌∙◌, sym, arith, true, false}
 use Rattle.c_meaning.specs.Types.{type_eq}
 use Rattle.c_stepper.proofs.Signatures.{have_differ, have_go_on}
 use Rattle.c_stepper.proofs.types.variables_have.Goals as goal

@@ -1,4 +1,4 @@
-use Rattle.std.proofs.Common.{◌≡◌, ◌+◌, ◌∙◌, sym, ap, subst, ℕ, List, Bool, true, false, Err}
+use Rattle.std.proofs.Common.{◌≡◌, ◌+◌, ◌∙◌, sym, ap, subst, List, Bool, true, false, Err}
 use Rattle.c_tree.specs.Tree as t
 use Rattle.c_tree.specs.Tree.{Statement, body_of}
 use Rattle.c_meaning.specs.Answer.{Got}
@@ -7,12 +7,11 @@ use Rattle.c_meaning.specs.States.{State}
 use Rattle.c_meaning.specs.Todo.{onto}
 use Rattle.c_meaning.specs.Steps.{Onward, do_statement, to_do}
 use Rattle.c_stepper.specs.Halts.{Tells}
-use Rattle.c_stepper.specs.Scopes.{view_at}
 use Rattle.c_stepper.specs.Spots.{todo_at, todo_of}
-use Rattle.c_stepper.specs.Stores.{byte_put, chosen}
+use Rattle.c_stepper.specs.Stores.{chosen}
 use Rattle.c_stepper.specs.Runners.{state_of, runner_view, body_at}
-use Rattle.c_stepper.proofs.Acting.{stops, wrote, wrote_none, go, go_none}
-use Rattle.c_stepper.proofs.Todo.{enter_if, enter_while, enter_first, enter_second}
+use Rattle.c_stepper.proofs.Acting.{stops, go, go_none}
+use Rattle.c_stepper.proofs.Todo.{enter_if}
 use Rattle.c_stepper.proofs.runner.Runner.choose.Goals as goal
 
 pub returns-in_err-chosen : goal.returns-in_err-chosen

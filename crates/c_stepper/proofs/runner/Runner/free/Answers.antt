@@ -1,19 +1,13 @@
-use Rattle.std.proofs.Common.{◌≡◌, ◌+◌, ◌∙◌, sym, ap, subst, ℕ, List, Bool, true, false, Err}
+use Rattle.std.proofs.Common.{◌≡◌, ◌+◌, ◌∙◌, sym, ap}
 use Rattle.c_tree.specs.Tree as t
 use Rattle.c_tree.specs.Tree.{Statement, body_of}
 use Rattle.c_meaning.specs.Answer.{Got}
 use Rattle.c_meaning.specs.Evaluate.{View}
 use Rattle.c_meaning.specs.States.{State}
-use Rattle.c_meaning.specs.Todo.{onto}
-use Rattle.c_meaning.specs.Steps.{Onward, do_statement, to_do}
-use Rattle.c_stepper.specs.Halts.{Tells}
-use Rattle.c_stepper.specs.Scopes.{view_at}
-use Rattle.c_stepper.specs.Spots.{todo_at, todo_of}
-use Rattle.c_stepper.specs.Stores.{byte_put, chosen}
+use Rattle.c_meaning.specs.Steps.{do_statement, to_do}
+use Rattle.c_stepper.specs.Spots.{todo_at}
 use Rattle.c_stepper.specs.Runners.{state_of, runner_view, body_at}
-use Rattle.c_stepper.proofs.Acting.{stops, wrote, wrote_none, go, go_none}
-use Rattle.c_stepper.proofs.Todo.{enter_if, enter_while, enter_first, enter_second}
-use Rattle.c_stepper.specs.Stores.{freed_of, Frees}
+use Rattle.c_stepper.specs.Stores.{freed_of}
 use Rattle.c_stepper.proofs.Acting.{stops_free, freed_one, freed_none}
 use Rattle.c_stepper.proofs.runner.Runner.free.Goals as goal
 
