@@ -1,0 +1,6 @@
+pub mod Codes
+pub mod Forks
+pub mod Views
+pub mod TreeViews
+pub mod Falls
+pub mod Scalars

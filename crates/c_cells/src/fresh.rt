@@ -1,0 +1,151 @@
+//! The trees with which blocks begin.
+ghost use Rattle.std.specs.Prelude.{◌≡◌, IfOk, reverse};
+ghost use Rattle.c_meaning.specs.Fresh.{fresh, struct_tree, members_tree, member_tree, copies};
+ghost use Rattle.c_cells.specs.Scalars.{scalar_tree};
+
+use crate::cell::{Cell, CellNode, copied};
+use crate::memory::Block;
+use crate::tree::CellTree;
+use c_tree::program::{CDeclaration, CMember};
+use c_tree::types::{CType, CTypeNode};
+use std::alloc::{AllocError, Global};
+use tree_lists::Items;
+
+/// A type of its own that is the same.
+pub fn copy_type(alloc: Global, of: &CType) -> Result<CType, AllocError>
+    ensures { IfOk result (λ copy. copy ≡ of.now) }
+{
+    match &of.node {
+        CTypeNode::Int => Ok(CType::int()),
+        CTypeNode::Word => Ok(CType::word()),
+        CTypeNode::Byte => Ok(CType::byte()),
+        CTypeNode::VoidPointer => Ok(CType::void_pointer()),
+        CTypeNode::Struct(name) => Ok(CType::structure(copied(alloc, name)?)),
+        CTypeNode::Named(name) => Ok(CType::named(copied(alloc, name)?)),
+        CTypeNode::Pointer(to) => CType::pointer(alloc, copy_type(alloc, to.get())?),
+    }
+}
+
+/// The block with which a variable, or what a `malloc` makes, begins.
+pub fn fresh_block(
+    alloc: Global,
+    zeroed: bool,
+    heap: bool,
+    declared: &[CDeclaration],
+    of: &CType,
+) -> Result<Block, AllocError>
+    ensures { IfOk result (λ block. block ≡ record { of = of.now; tree = fresh zeroed declared.now of.now; heap = heap }) }
+{
+    Ok(Block {
+        of: copy_type(alloc, of)?,
+        tree: fresh(alloc, zeroed, declared, of)?,
+        heap,
+    })
+}
+
+/// A scalar that is zero, or holds nothing.
+fn scalar(zeroed: bool, zero: CellNode) -> CellTree
+    ensures { result ≡ scalar_tree zeroed zero }
+{
+    CellTree::leaf(Cell {
+        node: if zeroed { zero } else { CellNode::Empty },
+    })
+}
+
+/// The tree with which a block of a type begins, where these are the declarations.
+#[cycle(fresh)]
+#[tactic(auto, unfolding(c_meaning::specs::Fresh::fresh, c_meaning::specs::Fresh::object_tree))]
+pub fn fresh(
+    alloc: Global,
+    zeroed: bool,
+    declared: &[CDeclaration],
+    of: &CType,
+) -> Result<CellTree, AllocError>
+    ensures { IfOk result (λ tree. tree ≡ fresh zeroed declared.now of.now) }
+{
+    match &of.node {
+        CTypeNode::Int => Ok(scalar(zeroed, CellNode::Int(0))),
+        CTypeNode::Word => Ok(scalar(zeroed, CellNode::Word(0))),
+        CTypeNode::Byte => Ok(scalar(zeroed, CellNode::Byte(0))),
+        CTypeNode::Struct(name) => fresh_struct(alloc, zeroed, declared, name.as_slice()),
+        CTypeNode::Named(_) => Ok(scalar(zeroed, CellNode::Null)),
+        CTypeNode::VoidPointer => Ok(scalar(zeroed, CellNode::Null)),
+        CTypeNode::Pointer(_) => Ok(scalar(zeroed, CellNode::Null)),
+    }
+}
+
+/// The tree of a struct: the last declaration with the name says what it is, by those above it.
+#[cycle(fresh)]
+#[tactic(auto, using(crate::proofs::FreshTrees::struct_found, crate::proofs::FreshTrees::struct_other, crate::proofs::FreshTrees::struct_typedef, crate::proofs::FreshTrees::struct_none))]
+fn fresh_struct(
+    alloc: Global,
+    zeroed: bool,
+    declared: &[CDeclaration],
+    name: &[u8],
+) -> Result<CellTree, AllocError>
+    ensures { IfOk result (λ tree. tree ≡ struct_tree zeroed (reverse declared.now) name.now) }
+{
+    let mut left = declared.len();
+    while left > 0 {
+        left -= 1;
+        if let CDeclaration::Struct(found) = &declared[left] {
+            if name == found.name.as_slice() {
+                return fresh_members(alloc, zeroed, &declared[..left], found.members.as_slice());
+            }
+        }
+    }
+    Ok(CellTree::branch(Items::new(alloc)))
+}
+
+#[cycle(fresh)]
+#[tactic(auto, using(crate::proofs::FreshTrees::built))]
+fn fresh_members(
+    alloc: Global,
+    zeroed: bool,
+    above: &[CDeclaration],
+    members: &[CMember],
+) -> Result<CellTree, AllocError>
+    ensures { IfOk result (λ tree. tree ≡ members_tree zeroed (struct_tree zeroed (reverse above.now)) members.now) }
+{
+    let mut list = Items::new(alloc);
+    let mut rest = members;
+    while let [first, after @ ..] = rest {
+        list.push(fresh_member(alloc, zeroed, above, first)?)?;
+        rest = after;
+    }
+    Ok(CellTree::branch(list))
+}
+
+#[cycle(fresh)]
+#[tactic(auto, unfolding(c_meaning::specs::Fresh::member_tree))]
+fn fresh_member(
+    alloc: Global,
+    zeroed: bool,
+    above: &[CDeclaration],
+    member: &CMember,
+) -> Result<CellTree, AllocError>
+    ensures { IfOk result (λ tree. tree ≡ member_tree member.now.length (fresh zeroed above.now member.now.of)) }
+{
+    match member.length {
+        None => fresh(alloc, zeroed, above, &member.of),
+        Some(length) => fresh_elements(alloc, zeroed, above, &member.of, length),
+    }
+}
+
+#[cycle(fresh)]
+#[tactic(auto, using(crate::proofs::FreshTrees::copies_replicate))]
+fn fresh_elements(
+    alloc: Global,
+    zeroed: bool,
+    above: &[CDeclaration],
+    of: &CType,
+    length: u64,
+) -> Result<CellTree, AllocError>
+    ensures { IfOk result (λ tree. tree ≡ copies length (fresh zeroed above.now of.now)) }
+{
+    let mut list = Items::new(alloc);
+    for index in 0..length {
+        list.push(fresh(alloc, zeroed, above, of)?)?;
+    }
+    Ok(CellTree::branch(list))
+}

@@ -1,0 +1,15 @@
+pub mod Signatures
+pub mod Leaves
+pub mod Exact
+pub mod Binary
+pub mod Names
+pub mod Places
+pub mod Reading
+pub mod Parts
+pub mod Casts
+pub mod Evaluations
+pub mod Todo
+pub mod LabelPaths
+pub mod Taking
+pub mod Acting
+pub mod Freeing

@@ -1,0 +1,331 @@
+//! The functions that run, with the memory.
+ghost use Rattle.std.specs.Prelude.{◌≡◌, ◌+◌, ◌<◌, ◌^◌, ℕ, List, Some, slice_get};
+ghost use Rattle.c_tree.specs.Tree as t;
+ghost use Rattle.c_tree.specs.Tree.{body_of};
+ghost use Rattle.c_meaning.specs.Steps as m;
+ghost use Rattle.c_meaning.specs.Steps.{do_statement};
+ghost use Rattle.c_stepper.specs.Stores.{Stores, byte_stored, address_stored, without_one, Frees, freed_of};
+ghost use Rattle.c_stepper.specs.Spots.{list_in, todo_at};
+ghost use Rattle.c_stepper.specs.Scopes.{view_at, HasRoom};
+ghost use Rattle.c_stepper.specs.Runners.{state_of, runner_view, body_at, text_at, text_of, first_of, FitsFrame, Acts};
+ghost use Rattle.c_meaning.specs.Steps.{after_byte};
+
+use crate::halt::Halt;
+use crate::label::find_in;
+use crate::scope::Scope;
+use crate::spot::Spot;
+use crate::store::{Store, assigned, freed, got, malloced, put, test};
+use c_cells::Path;
+use c_cells::fresh::fresh_block;
+use c_cells::memory::Memory;
+use c_meaning::StuckKind;
+use c_tree::expr::{CExpr, CPlace};
+use c_tree::program::{CProgram, CVariable};
+use c_tree::statement::CStatement;
+use c_tree::types::CType;
+use std::alloc::Global;
+
+/// What a statement did beside the change of the frames and the memory.
+#[derive(Clone, Copy, Debug, PartialEq, Eq)]
+pub enum Done {
+    Going,
+    /// It wrote a byte.
+    Wrote(u8),
+}
+
+/// Where the answer of a call goes: nowhere, or to a place of a type, which may be an array.
+#[derive(Drop)]
+pub enum Target {
+    Nowhere,
+    Into(usize, Path, Option<u64>, CType),
+}
+
+/// A function that runs: its number, or none for `main`.
+#[derive(Drop)]
+pub struct Frame {
+    pub function: Option<usize>,
+    pub reach: usize,
+    pub base: usize,
+    pub spot: Spot,
+    pub target: Target,
+}
+
+#[derive(Drop)]
+pub struct Runner {
+    pub frame: Frame,
+    pub below: Vec<Frame>,
+    pub memory: Memory,
+    pub alloc: Global,
+}
+
+/// The text of a function.
+#[derive(Clone, Copy)]
+pub struct Text<'a> {
+    pub parameters: &'a [CVariable],
+    pub locals: &'a [CVariable],
+    pub body: &'a [CStatement],
+}
+
+/// The text of the function with a number.
+pub fn written_text<'a>(program: &'a CProgram, function: Option<usize>) -> Text<'a>
+    ensures { text_of result ≡ text_at program.now function }
+{
+    match function {
+        None => Text {
+            parameters: &[],
+            locals: program.main.locals.as_slice(),
+            body: program.main.body.as_slice(),
+        },
+        Some(number) => match program.functions.get(number) {
+            Some(found) => Text {
+                parameters: found.parameters.as_slice(),
+                locals: found.locals.as_slice(),
+                body: found.body.as_slice(),
+            },
+            None => Text {
+                parameters: &[],
+                locals: &[],
+                body: &[],
+            },
+        },
+    }
+}
+
+impl Runner {
+    fn scope<'a>(&'a self, program: &'a CProgram) -> Scope<'a>
+        requires { FitsFrame program.now self.now.frame }
+        ensures view { view_at result ≡ runner_view program.now self.now }
+        ensures room { HasRoom result }
+        ensures memory { result.memory.now ≡ self.now.memory }
+        ensures program { result.program.now ≡ program.now }
+    {
+        let text = written_text(program, self.frame.function);
+        Scope {
+            program,
+            reach: self.frame.reach,
+            parameters: text.parameters,
+            locals: text.locals,
+            base: self.frame.base,
+            memory: &self.memory,
+            alloc: self.alloc,
+        }
+    }
+
+    /// The store of `place = e;`.
+    fn assignment<'a>(
+        &'a self,
+        program: &'a CProgram,
+        place: &'a CPlace,
+        e: &'a CExpr,
+    ) -> Result<Store, Halt>
+        requires { FitsFrame program.now self.now.frame }
+        ensures { Stores self.now.memory result (m.assign (runner_view program.now self.now) place.now e.now) }
+    {
+        let scope = self.scope(program);
+        assigned(&scope, place, e)
+    }
+
+    /// The store of `place = getchar();` where this is the byte that comes next.
+    fn reading<'a>(
+        &'a self,
+        program: &'a CProgram,
+        place: &'a CPlace,
+        byte: Option<u8>,
+    ) -> Result<Store, Halt>
+        requires { FitsFrame program.now self.now.frame }
+        ensures { Stores self.now.memory result (byte_stored (runner_view program.now self.now) place.now byte) }
+    {
+        let scope = self.scope(program);
+        got(&scope, place, byte)
+    }
+
+    fn assign(&mut self, program: &CProgram, place: &CPlace, e: &CExpr) -> Result<Done, Halt>
+        requires fits { FitsFrame program.now self.old.frame }
+        requires small { self.old.frame.spot.at + 1 < 2 ^ 64 }
+        ensures { (input output calls : List ℕ) → Acts program.now self.new input output calls result
+            (do_statement program.now (runner_view program.now self.old) (state_of program.now self.old input output calls)
+            (todo_at (body_at program.now self.old.frame) self.old.frame.spot.outer.items (self.old.frame.spot.at + 1)) (t.Assign place.now e.now)) }
+    {
+        let Store { number, path, tree } = self.assignment(program, place, e)?;
+        self.memory.store(number, path.as_slice(), tree)?;
+        self.frame.spot.at += 1;
+        Ok(Done::Going)
+    }
+
+    fn get_char(
+        &mut self,
+        program: &CProgram,
+        place: &CPlace,
+        byte: Option<u8>,
+    ) -> Result<Done, Halt>
+        requires fits { FitsFrame program.now self.old.frame }
+        requires small { self.old.frame.spot.at + 1 < 2 ^ 64 }
+        ensures { (input output calls : List ℕ) → byte ≡ first_of input → Acts program.now self.new (after_byte input) output calls result
+            (do_statement program.now (runner_view program.now self.old) (state_of program.now self.old input output calls)
+            (todo_at (body_at program.now self.old.frame) self.old.frame.spot.outer.items (self.old.frame.spot.at + 1)) (t.GetChar place.now)) }
+    {
+        let Store { number, path, tree } = self.reading(program, place, byte)?;
+        self.memory.store(number, path.as_slice(), tree)?;
+        self.frame.spot.at += 1;
+        Ok(Done::Going)
+    }
+
+    fn put_char(&mut self, program: &CProgram, e: &CExpr) -> Result<Done, Halt>
+        requires fits { FitsFrame program.now self.old.frame }
+        requires small { self.old.frame.spot.at + 1 < 2 ^ 64 }
+        ensures { (input output calls : List ℕ) → Acts program.now self.new input output calls result
+            (do_statement program.now (runner_view program.now self.old) (state_of program.now self.old input output calls)
+            (todo_at (body_at program.now self.old.frame) self.old.frame.spot.outer.items (self.old.frame.spot.at + 1)) (t.PutChar e.now)) }
+    {
+        let byte = put(&self.scope(program), e)?;
+        self.frame.spot.at += 1;
+        Ok(Done::Wrote(byte))
+    }
+
+    fn choose(&mut self, program: &CProgram, e: &CExpr, body: &[CStatement]) -> Result<Done, Halt>
+        requires fits { FitsFrame program.now self.old.frame }
+        requires small { self.old.frame.spot.at + 1 < 2 ^ 64 }
+        requires here { slice_get (list_in (body_at program.now self.old.frame) self.old.frame.spot.outer.items) self.old.frame.spot.at ≡ Some (t.If e.now (body_of body.now)) }
+        ensures { (input output calls : List ℕ) → Acts program.now self.new input output calls result
+            (do_statement program.now (runner_view program.now self.old) (state_of program.now self.old input output calls)
+            (todo_at (body_at program.now self.old.frame) self.old.frame.spot.outer.items (self.old.frame.spot.at + 1)) (t.If e.now (body_of body.now))) }
+    {
+        let chosen = test(&self.scope(program), e)?;
+        if chosen {
+            self.frame.spot.enter(false)?;
+        } else {
+            self.frame.spot.at += 1;
+        }
+        Ok(Done::Going)
+    }
+
+    fn choose_between(
+        &mut self,
+        program: &CProgram,
+        e: &CExpr,
+        body: &[CStatement],
+        other: &[CStatement],
+    ) -> Result<Done, Halt>
+        requires fits { FitsFrame program.now self.old.frame }
+        requires here { slice_get (list_in (body_at program.now self.old.frame) self.old.frame.spot.outer.items) self.old.frame.spot.at ≡ Some (t.IfElse e.now (body_of body.now) (body_of other.now)) }
+        ensures { (input output calls : List ℕ) → Acts program.now self.new input output calls result
+            (do_statement program.now (runner_view program.now self.old) (state_of program.now self.old input output calls)
+            (todo_at (body_at program.now self.old.frame) self.old.frame.spot.outer.items (self.old.frame.spot.at + 1)) (t.IfElse e.now (body_of body.now) (body_of other.now))) }
+    {
+        let chosen = test(&self.scope(program), e)?;
+        self.frame.spot.enter(!chosen)?;
+        Ok(Done::Going)
+    }
+
+    fn turn(&mut self, program: &CProgram, e: &CExpr, body: &[CStatement]) -> Result<Done, Halt>
+        requires fits { FitsFrame program.now self.old.frame }
+        requires small { self.old.frame.spot.at + 1 < 2 ^ 64 }
+        requires here { slice_get (list_in (body_at program.now self.old.frame) self.old.frame.spot.outer.items) self.old.frame.spot.at ≡ Some (t.While e.now (body_of body.now)) }
+        ensures { (input output calls : List ℕ) → Acts program.now self.new input output calls result
+            (do_statement program.now (runner_view program.now self.old) (state_of program.now self.old input output calls)
+            (todo_at (body_at program.now self.old.frame) self.old.frame.spot.outer.items (self.old.frame.spot.at + 1)) (t.While e.now (body_of body.now))) }
+    {
+        let chosen = test(&self.scope(program), e)?;
+        if chosen {
+            self.frame.spot.enter(false)?;
+        } else {
+            self.frame.spot.at += 1;
+        }
+        Ok(Done::Going)
+    }
+
+    /// A label is passed.
+    #[tactic(auto, unfolding(c_meaning::specs::Steps::do_statement, c_meaning::specs::Steps::to_do))]
+    fn pass(&mut self, program: &CProgram, label: &[u8]) -> Result<Done, Halt>
+        requires small { self.old.frame.spot.at + 1 < 2 ^ 64 }
+        ensures { (input output calls : List ℕ) → Acts program.now self.new input output calls result
+            (do_statement program.now (runner_view program.now self.old) (state_of program.now self.old input output calls)
+            (todo_at (body_at program.now self.old.frame) self.old.frame.spot.outer.items (self.old.frame.spot.at + 1)) (t.Label label.now)) }
+    {
+        self.frame.spot.at += 1;
+        Ok(Done::Going)
+    }
+
+    /// The function goes on at a label of its text.
+    fn jump(&mut self, program: &CProgram, label: &[u8]) -> Result<Done, Halt>
+        ensures { (input output calls : List ℕ) → Acts program.now self.new input output calls result
+            (do_statement program.now (runner_view program.now self.old) (state_of program.now self.old input output calls)
+            (todo_at (body_at program.now self.old.frame) self.old.frame.spot.outer.items (self.old.frame.spot.at + 1)) (t.Goto label.now)) }
+    {
+        self.frame.spot.outer.clear();
+        let text = written_text(program, self.frame.function);
+        match find_in(text.body, label, &mut self.frame.spot.outer)? {
+            Some(at) => {
+                self.frame.spot.at = at;
+                Ok(Done::Going)
+            }
+            None => Err(Halt::Stuck(StuckKind::UnknownName)),
+        }
+    }
+
+    /// The store of `place = malloc(sizeof(of));`: the address of the block that is made next.
+    fn address<'a>(
+        &'a self,
+        program: &'a CProgram,
+        place: &'a CPlace,
+        of: &'a CType,
+    ) -> Result<Store, Halt>
+        requires { FitsFrame program.now self.now.frame }
+        ensures { Stores self.now.memory result (address_stored (runner_view program.now self.now) self.now.memory place.now of.now) }
+    {
+        let scope = self.scope(program);
+        malloced(&scope, place, of)
+    }
+
+    fn malloc(&mut self, program: &CProgram, place: &CPlace, of: &CType) -> Result<Done, Halt>
+        requires fits { FitsFrame program.now self.old.frame }
+        requires small { self.old.frame.spot.at + 1 < 2 ^ 64 }
+        ensures { (input output calls : List ℕ) → Acts program.now self.new input output calls result
+            (do_statement program.now (runner_view program.now self.old) (state_of program.now self.old input output calls)
+            (todo_at (body_at program.now self.old.frame) self.old.frame.spot.outer.items (self.old.frame.spot.at + 1)) (t.Malloc place.now of.now)) }
+    {
+        let declared = program.declarations.as_slice();
+        let block = fresh_block(self.alloc, false, true, declared, of)?;
+        let Store { number, path, tree } = self.address(program, place, of)?;
+        let at = path.as_slice();
+        self.memory.store(number, at, tree)?;
+        self.memory.push(block)?;
+        self.frame.spot.at += 1;
+        Ok(Done::Going)
+    }
+
+    /// The number of the block that `free(e);` makes be gone, or none where nothing is freed.
+    fn freeing<'a>(&'a self, program: &'a CProgram, e: &'a CExpr) -> Result<Option<usize>, Halt>
+        requires { FitsFrame program.now self.now.frame }
+        ensures { Frees self.now.memory result (freed_of (runner_view program.now self.now) self.now.memory e.now) }
+    {
+        let scope = self.scope(program);
+        freed(&scope, e)
+    }
+
+    fn free(&mut self, program: &CProgram, e: &CExpr) -> Result<Done, Halt>
+        requires fits { FitsFrame program.now self.old.frame }
+        requires small { self.old.frame.spot.at + 1 < 2 ^ 64 }
+        ensures { (input output calls : List ℕ) → Acts program.now self.new input output calls result
+            (do_statement program.now (runner_view program.now self.old) (state_of program.now self.old input output calls)
+            (todo_at (body_at program.now self.old.frame) self.old.frame.spot.outer.items (self.old.frame.spot.at + 1)) (t.Free e.now)) }
+    {
+        let which = self.freeing(program, e)?;
+        forget(&mut self.memory, which);
+        self.frame.spot.at += 1;
+        Ok(Done::Going)
+    }
+}
+
+/// Makes a block be gone, where one is named.
+fn forget(memory: &mut Memory, which: Option<usize>)
+    ensures { memory.new ≡ without_one memory.old which }
+{
+    match which {
+        Some(number) => {
+            let gone = memory.remove(number);
+            drop(gone);
+        }
+        None => {}
+    }
+}
