@@ -1,4 +1,8 @@
-//! Runs C programs, one step of the meaning at a time.
+//! What a statement of a running C program does, over the memory of c_cells.
+//!
+//! `evaluate` gives the value of an expression and the place of a place expression, or the stuck
+//! kind, as the meaning of C does. `runner` does each kind of statement but calls and `return`, with
+//! the contract that it does what `do_statement` says, for every input and output.
 #![tactic(auto)]
 
 mod cast;
