@@ -4,16 +4,23 @@ use Rattle.p2c_text.specs.declared.dialect.Dialect.TheVariants.{Iso}
 use Rattle.p2c_outside.specs.Told.{Named, WhereTold, Gains}
 use Rattle.agreement.specs.Agrees.{Agrees}
 use Rattle.agreement.specs.Writers.{Writing, typed_writer}
+use Rattle.program_shape.specs.OfTyped.{outline_of}
+use Rattle.program_shape.specs.Shape.{Shape}
+use Rattle.program_shape.specs.Laws.{NothingPerforms}
 use Rattle.literal_writers.specs.Form.{IsWriter}
+use Rattle.p2c_main.specs.Words.{file_asked}
 use Rattle.p2c_main.specs.Written.{GainsPart}
 
 -- the source is a program with these statements, and not too long
 abbrev pub Accepts : (source : List ℕ) → List Writing → Type 0
 Accepts source ws = (length source ≤ 8388608) × IsWriter source ws
 
--- the text agrees with the typed program of the source
-abbrev pub IsTranslation : (source text : List ℕ) → Type 0
-IsTranslation source text = (ws : List Writing) × Accepts source ws × Agrees (typed_writer Iso ws) text
+-- the text agrees with the typed program of the source, and its tree has the form of a translation of it
+pub record IsTranslation (source text : List ℕ) : Type 0 where
+  pub writings : List Writing
+  pub accepts : Accepts source writings
+  pub agrees : Agrees (typed_writer Iso writings) text
+  pub shape : Shape NothingPerforms (outline_of (typed_writer Iso writings)) agrees.program
 
 -- what was made of a source that is not too long: a translation, or nothing where it is not accepted
 abbrev pub IsMade : (source : List ℕ) → Option (List ℕ) → Type 0
@@ -31,3 +38,8 @@ TranslatesPart told name old new = (source text : List ℕ) × WhereTold told na
 -- where the files are told, the file of the name is there and is not accepted
 abbrev pub Refuses : Option Named → (name : List ℕ) → Type 0
 Refuses told name = WhereTold told name (λ bytes. (ws : List Writing) → Accepts bytes ws → ⊥)
+
+-- the words ask for a file that is told, and its text is accepted
+abbrev pub AsksForAccepted : Option Named → (words : List (List ℕ)) → Type 0
+AsksForAccepted None words = ⊥
+AsksForAccepted (Some files) words = (name source : List ℕ) × (ws : List Writing) × (file_asked words ≡ Some name) × (files name ≡ Some source) × Accepts source ws

@@ -6,7 +6,7 @@ ghost use Rattle.p2c_outside.specs.Told.{Gains};
 ghost use Rattle.p2c_main.specs.Messages.{Reports, status_of};
 ghost use Rattle.p2c_main.specs.Reading.{Lacks, outcome_of};
 ghost use Rattle.p2c_main.specs.Words.{file_asked, name_asked};
-ghost use Rattle.p2c_main.specs.Translated.{Accepts, IsMade, IsTranslation, Translates, TranslatesPart, Refuses};
+ghost use Rattle.p2c_main.specs.Translated.{Accepts, AsksForAccepted, IsMade, IsTranslation, Translates, TranslatesPart, Refuses};
 ghost use Rattle.p2c_main.specs.Written.{GainsPart};
 
 use crate::lower::writer;
@@ -42,6 +42,11 @@ pub fn p2c<F: Files, I: Source, O: Sink, E: Sink>(
         Translates (F.told files.old) (name_asked words.now) (O.written out.old) (O.written out.new) }
     ensures cut { result ≡ 244 →
         TranslatesPart (F.told files.old) (name_asked words.now) (O.written out.old) (O.written out.new) }
+
+    // where no fault rose, an accepted text is translated, or memory was wanting
+    ensures complete { AsksForAccepted (F.told files.old) words.now →
+        (Rose (F.faults files.old) (F.faults files.new) → ⊥) → (Rose (O.faults out.old) (O.faults out.new) → ⊥) →
+        (result ≡ 0) ⊎ (result ≡ 245) }
 
     // no fault is swallowed
     ensures none_missing { result ≢ 242 → result ≢ 243 → F.missing files.new ≡ F.missing files.old }

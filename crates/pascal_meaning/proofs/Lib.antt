@@ -1,5 +1,5 @@
 pub mod Bounds
-mod Examples
+pub mod Examples
 pub mod ExpressionViews
 pub mod StatementViews
 pub mod Steps
