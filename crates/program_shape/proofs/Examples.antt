@@ -1,5 +1,5 @@
 -- Worked examples of operations, outlines and C programs.
-use Rattle.std.proofs.Common.{◌≡◌, ℕ, zero, suc, Bool, true, false, List, [], ◌∷◌, ◌++◌, Option, Some, None, refl}
+use Rattle.std.proofs.Common.{◌≡◌, ℕ, Bool, true, false, List, [], ◌∷◌, ◌++◌, Option, Some, None, refl}
 use Rattle.std.specs.Prelude.{pos, negsuc, codes}
 use Rattle.std.specs.List.{list_any}
 use Rattle.std.specs.Fmt.{digits}
@@ -9,7 +9,6 @@ use Rattle.typed_tree.specs.declared.types.Types.{Types}
 use Rattle.typed_tree.specs.declared.types.PasType.{PasType}
 use Rattle.typed_tree.specs.declared.types.PasType.TheVariants.{Array, DynString, RecordOf}
 use Rattle.typed_tree.specs.declared.declarations.Typed.{Typed}
-use Rattle.typed_tree.specs.declared.declarations.Callee.TheVariants.{Routine as CalleeRoutine}
 use Rattle.typed_tree.specs.declared.declarations.Owner.TheVariants.{Program, Routine as RoutineOwner}
 use Rattle.typed_tree.specs.declared.expressions.Selector.TheVariants.{Index, Field}
 use Rattle.typed_tree.specs.declared.operations.BinaryOp.TheVariants as op
@@ -19,11 +18,11 @@ use Rattle.typed_tree.specs.declared.statements.TypedStmt as S
 use Rattle.typed_tree.specs.declared.statements.TypedStmt.{TypedStmt}
 use Rattle.pascal_meaning.specs.declared.operations.Primitive.{Primitive}
 use Rattle.pascal_meaning.specs.declared.operations.Primitive.TheVariants as p
-use Rattle.pascal_meaning.proofs.Examples.Build.{integer, small, char, boolean, own, known_types, range, label_of, field, arm, variant_part, num, letter, truth, quoted, unary, chain, read, variable, predefined, value_for, shown, wide, assign_to, seq, while, repeat_until, for_of, case_of, case_else, labelled, perform, of_type, section, procedure, whole as program}
-use Rattle.c_tree.specs.Tree.{Statement as CStatement, Call, If, While, Goto, Label, PutChar, Body, Empty, Then, Read, Number, Variable}
+use Rattle.pascal_meaning.proofs.Examples.Build.{integer, small, char, boolean, own, known_types, range, label_of, field, arm, variant_part, num, letter, truth, unary, chain, read, variable, shown, wide, assign_to, while, repeat_until, for_of, case_of, case_else, labelled, perform, of_type, section, procedure, whole as program}
+use Rattle.c_tree.specs.Tree.{Statement as CStatement, Call, While, Goto, Label, Empty, Then, Read, Variable}
 use Rattle.c_tree.specs.declared.statement.CCallee.TheVariants.{Direct}
-use Rattle.program_shape.specs.Outlines.{BodyOutline, RoutineOutline, Outline}
-use Rattle.program_shape.specs.Functions.{whiles, statement_whiles, body_whiles, jumps, statement_jumps, body_jumps, Jump, Lands, Leaps, Site, sites, statement_sites, body_sites, first_of}
+use Rattle.program_shape.specs.Outlines.{BodyOutline, RoutineOutline}
+use Rattle.program_shape.specs.Functions.{whiles, statement_whiles, body_whiles, jumps, statement_jumps, body_jumps, Lands, Leaps, sites, statement_sites, body_sites, first_of}
 use Rattle.program_shape.specs.Shape.{c_name}
 use Rattle.typed_tree.specs.Ranges.{type_at, range_of, Range, host_of, Hosted}
 use Rattle.typed_tree.specs.Fields.{as_variable, part_fields, arms_fields, arm_fields, inner_fields, variant, variants_of, choice, has_field, deeper, around_part, around_arms, around_arm, around_inner, tag_in_part, tag_in_arms, tag_in_inner, optional_fields, record_fields, or_none, variants_around, tag_choice}
@@ -173,9 +172,10 @@ nested = program Iso [] (
     ∷ []) [] [] [] []
 
 loops_labels_and_captured_names : outlined nested ≡ (
-    (record { name = []; number = 1; captured = 1 ∷ 2 ∷ []; body = record { loops = 2; labelled = true } }
-    ∷ record { name = []; number = 2; captured = []; body = record { loops = 0; labelled = false } } ∷ []),
-    record { loops = 0; labelled = false })
+  (record { name = []; number = 1; captured = 1 ∷ 2 ∷ []; body = record { loops = 2; labelled = true } }
+      ∷ record { name = []; number = 2; captured = []; body = record { loops = 0; labelled = false } } ∷ []),
+  record { loops = 0; labelled = false },
+)
 unfolding outlined
 loops_labels_and_captured_names = refl
 

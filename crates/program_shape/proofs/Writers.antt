@@ -1,14 +1,11 @@
 -- The C program that writes bytes calls nothing, and has no loop and no jump.
-use Rattle.std.proofs.Common.{◌≡◌, ℕ, zero, suc, ◌<◌, ◌≤◌, List, [], ◌∷◌, ◌++◌, length, map, Option, Some, None, refl, subst, sym, ◌∙◌, ap, arith}
+use Rattle.std.proofs.Common.{◌≡◌, ℕ, zero, suc, List, [], ◌∷◌, ◌++◌, map, Some, refl, subst, sym, ◌∙◌, arith}
 use Rattle.std.specs.List.{Contains}
-use Rattle.p2c_text.specs.declared.dialect.Dialect.{Dialect}
 use Rattle.c_tree.specs.Tree.{Return, Number}
-use Rattle.agreement.specs.Writers.{Writing, put_of, typed_writer, writer_of}
-use Rattle.program_shape.specs.Outlines.{Outline}
+use Rattle.agreement.specs.Writers.{put_of, writer_of}
 use Rattle.program_shape.specs.OfTyped.{outline_of}
-use Rattle.program_shape.specs.Functions.{whiles, statement_whiles, jumps, statement_jumps, Jump, Lands, Leaps, GoesBack, sites, statement_sites, first_of, Site, Text, texts, main_text, variables_of, function_names, runtime_functions, Calls, Target}
-use Rattle.program_shape.specs.Shape.{Shape, OneFunctionEach, PrimitivesOnly, CapturedOnly, CheckedOnly, NoMoreLoops, IsCheckedAfter}
-use Rattle.program_shape.specs.Laws.{NothingPerforms, WritersHaveShape}
+use Rattle.program_shape.specs.Functions.{whiles, statement_whiles, jumps, statement_jumps, Jump, sites, statement_sites, texts, main_text, function_names, runtime_functions}
+use Rattle.program_shape.specs.Laws.{WritersHaveShape}
 
 nothing_in : {X : Type 0} (x : X) → Contains {X = X} [] x → ⊥
 nothing_in x (k, below, is) = absurd (omega (arith, below))

@@ -1,7 +1,7 @@
 -- What the form of a C program is read from: its loops, jumps, calls and names.
-use Rattle.std.specs.Prelude.{◌≡◌, ℕ, ◌+◌, Bool, true, false, List, [], ◌∷◌, ◌++◌, map, Option, Some, None}
+use Rattle.std.specs.Prelude.{◌≡◌, ℕ, ◌+◌, List, [], ◌∷◌, ◌++◌, map, Option, Some, None}
 use Rattle.std.specs.List.{Contains}
-use Rattle.c_tree.specs.Tree.{Statement, Assign, Call, Malloc, Free, GetChar, PutChar, If, IfElse, While, Goto, Label, Return, Body, Empty, Then, Expr, Read, Place, Variable}
+use Rattle.c_tree.specs.Tree.{Statement, Call, If, IfElse, While, Goto, Label, Body, Empty, Then, Expr}
 use Rattle.c_tree.specs.declared.statement.CCallee.{CCallee}
 use Rattle.c_tree.specs.declared.statement.CCallee.TheVariants as callee
 use Rattle.c_tree.specs.declared.program.CVariable.{CVariable}

@@ -9,7 +9,6 @@ use Rattle.typed_tree.specs.declared.declarations.VarDecl.{VarDecl}
 use Rattle.typed_tree.specs.declared.declarations.Routine.{Routine}
 use Rattle.typed_tree.specs.declared.declarations.Body.{Body}
 use Rattle.typed_tree.specs.declared.declarations.Typed.{Typed}
-use Rattle.typed_tree.specs.declared.operations.PredefCall.{PredefCall}
 use Rattle.typed_tree.specs.declared.operations.PredefCall.TheVariants as call
 use Rattle.typed_tree.specs.declared.expressions.Root.{Root}
 use Rattle.typed_tree.specs.declared.expressions.Root.TheVariants as root
@@ -18,7 +17,7 @@ use Rattle.typed_tree.specs.declared.expressions.TypedArg.TheVariants as arg
 use Rattle.typed_tree.specs.declared.statements.TypedStmt as S
 use Rattle.typed_tree.specs.declared.statements.TypedStmt.{TypedStmt}
 use Rattle.pascal_meaning.specs.declared.operations.Primitive.{Primitive}
-use Rattle.program_shape.specs.Nodes.{Node, Statement, Expression, Passed, Called, Named, Rooted, Selected, nodes}
+use Rattle.program_shape.specs.Nodes.{Node, Statement, Called, Named, Rooted, nodes}
 use Rattle.program_shape.specs.Uses.{uses}
 use Rattle.program_shape.specs.Raises.{raises}
 use Rattle.program_shape.specs.Outlines.{BodyOutline, RoutineOutline, Outline}

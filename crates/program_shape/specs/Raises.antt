@@ -1,7 +1,7 @@
 -- Which operations raise: those for which the language names a runtime error in the dialect.
-use Rattle.std.specs.Prelude.{ℕ, ℤ, Bool, true, false, not, ◌&&◌, ◌||◌, int_le, List, [], ◌∷◌, map, Option, Some, None}
+use Rattle.std.specs.Prelude.{ℕ, ℤ, Bool, true, false, not, ◌&&◌, ◌||◌, int_le, List, [], ◌∷◌, Option, Some, None}
 use Rattle.p2c_text.specs.declared.dialect.Dialect.{Dialect}
-use Rattle.p2c_text.specs.declared.dialect.Dialect.TheVariants.{Iso, Turbo, Ucsd, Hp}
+use Rattle.p2c_text.specs.declared.dialect.Dialect.TheVariants.{Iso, Hp}
 use Rattle.typed_tree.specs.declared.types.Types.{Types}
 use Rattle.typed_tree.specs.declared.types.PasType.{PasType}
 use Rattle.typed_tree.specs.declared.types.PasType.TheVariants.{Ordinal, DynString, SetOf}
@@ -21,12 +21,12 @@ use Rattle.typed_tree.specs.declared.expressions.TypedExpr as X
 use Rattle.typed_tree.specs.declared.expressions.TypedExpr.{TypedExpr, Row_of-BinaryPart, Row_of-SetElem}
 use Rattle.typed_tree.specs.declared.statements.TypedStmt as S
 use Rattle.typed_tree.specs.declared.statements.TypedStmt.{TypedStmt}
-use Rattle.typed_tree.specs.Ranges.{type_at, Range}
+use Rattle.typed_tree.specs.Ranges.{type_at}
 use Rattle.typed_tree.specs.Fields.{Choice, Variant, variants_around}
 use Rattle.pascal_meaning.specs.Places.{root_type, base_range}
 use Rattle.pascal_meaning.specs.Meaning.{place_type, expr_type}
 use Rattle.program_shape.specs.Nodes.{Node, Statement, Expression, Passed, Called, Named, Rooted, Selected, constant, is_settled, is_positive, is_turbo, is_string, has_named_tag}
-use Rattle.program_shape.specs.Uses.{is_wide, given, all_given}
+use Rattle.program_shape.specs.Uses.{given, all_given}
 
 -- ---- stores
 

@@ -1,13 +1,12 @@
 -- The form of a translation: one C function for each routine, and no interpreter.
-use Rattle.std.specs.Prelude.{◌≡◌, ◌↔◌, ℕ, ◌+◌, ◌≤◌, IsTrue, List, [], ◌∷◌, ◌++◌, length, map, decimal, codes, Option, Some, None}
-use Rattle.std.specs.List.{Contains, All, AllPairs}
+use Rattle.std.specs.Prelude.{◌≡◌, ◌↔◌, ℕ, ◌+◌, ◌≤◌, IsTrue, List, [], ◌∷◌, ◌++◌, length, map, decimal, codes, Option, Some}
+use Rattle.std.specs.List.{Contains, AllPairs}
 use Rattle.typed_tree.specs.declared.types.PasType.{PasType}
 use Rattle.typed_tree.specs.declared.types.Types.{Types}
 use Rattle.pascal_meaning.specs.declared.operations.Primitive.{Primitive}
 use Rattle.c_tree.specs.Tree.{Statement, If, IfElse, Expr, Read, Number, WordNumber, Null, Address, Unary, Binary, Cast, Place, Variable, Pointee, Member, Index}
 use Rattle.c_tree.specs.declared.program.CStruct.{CStruct}
 use Rattle.c_tree.specs.declared.program.CFunction.{CFunction}
-use Rattle.c_tree.specs.declared.program.CDeclaration.{CDeclaration}
 use Rattle.c_tree.specs.declared.program.CDeclaration.TheVariants.{Struct}
 use Rattle.c_tree.specs.declared.program.CProgram.{CProgram}
 use Rattle.c_meaning.specs.Entries.{number_at_end}
@@ -32,7 +31,7 @@ pub record Once {X : Type 0} (xs : List X) (x : X) : Type 0 where
 pub record OneFunctionEach (o : Outline) (c : CProgram) : Type 0 where
   pub one : (r : RoutineOutline) → Contains o.routines r → Once (function_names c) (c_name r)
   pub no_other : (name : List ℕ) (k : ℕ) → Contains (function_names c) name → number_at_end name ≡ Some k
-    → (r : RoutineOutline) × Contains o.routines r × (name ≡ c_name r)
+      → (r : RoutineOutline) × Contains o.routines r × (name ≡ c_name r)
 
 -- ---- the runtime's functions
 

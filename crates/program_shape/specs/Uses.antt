@@ -1,5 +1,5 @@
 -- Which primitives an operation uses.
-use Rattle.std.specs.Prelude.{ℕ, ℤ, pos, negsuc, Bool, true, false, ◌||◌, List, [], ◌∷◌, ◌++◌, map, Option, Some, None}
+use Rattle.std.specs.Prelude.{ℕ, ℤ, pos, negsuc, Bool, true, false, ◌||◌, List, [], ◌∷◌, ◌++◌, map, Option, Some}
 use Rattle.p2c_text.specs.declared.dialect.Dialect.{Dialect}
 use Rattle.p2c_text.specs.declared.dialect.Dialect.TheVariants.{Iso, Turbo, Ucsd, Hp}
 use Rattle.typed_tree.specs.declared.types.Types.{Types}

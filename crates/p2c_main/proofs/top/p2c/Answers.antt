@@ -46,24 +46,27 @@ returns-clause-complete g c = λ accepted calm_read calm_write. elim c.match-ask
       let refused = λ (r : Refuses told w.in-Some.name.now). subst (λ n. Refuses told n) named r in
       subst (λ s. (s ≡ 0) ⊎ (s ≡ 245)) (sym (c.status.ensures ∙ ap status_of w.outcome-is))
       (completed told words w.translate-outcome.result
-        (Rose (g.F.Files.faults c.args.files.now) (g.F.Files.faults c.match-asked.files)) (Rose (g.O.Sink.faults c.args.out.now) (g.O.Sink.faults c.match-asked.out))
-        accepted calm_read calm_write says.asked
-        (λ e. subst (λ n. Lacks told n) named (says.absent e))
-        (λ e. subst (λ f. Rose (g.F.Files.faults c.args.files.now) (g.F.Files.faults f)) (sym w.files-is) (says.read_fault e))
-        (λ e. subst (λ o. Rose (g.O.Sink.faults c.args.out.now) (g.O.Sink.faults o)) (sym w.out-is) (says.write_fault e))
-        (λ e. refused (says.too_long e))
-        (λ e. refused (says.unbuilt e)))
+      (Rose (g.F.Files.faults c.args.files.now) (g.F.Files.faults c.match-asked.files)) (Rose (g.O.Sink.faults c.args.out.now) (g.O.Sink.faults c.match-asked.out))
+      accepted calm_read calm_write says.asked
+      (λ e. subst (λ n. Lacks told n) named (says.absent e))
+      (λ e. subst (λ f. Rose (g.F.Files.faults c.args.files.now) (g.F.Files.faults f)) (sym w.files-is) (says.read_fault e))
+      (λ e. subst (λ o. Rose (g.O.Sink.faults c.args.out.now) (g.O.Sink.faults o)) (sym w.out-is) (says.write_fault e))
+      (λ e. refused (says.too_long e))
+      (λ e. refused (says.unbuilt e)))
   | in-None w ↦ absurd (asks (g.F.Files.told c.args.files.now) c.args.words.now accepted (sym c.asked_file-asked.ensures ∙ ap option_copied w.in-None.is))
 ]
 
 pub returns-clause-message : goal.returns-clause-message
 returns-clause-message g c =
     let named : c.unwrap_or.result.now ≡ name_asked c.args.words.now =
-        ap (λ b. b.now) c.unwrap_or.ensures ∙ name_or c.asked_file-asked.result _ refl ∙ ap (λ o. unwrap_or o []) c.asked_file-asked.ensures in
+    ap (λ b. b.now) c.unwrap_or.ensures ∙ name_or c.asked_file-asked.result _ refl ∙ ap (λ o. unwrap_or o []) c.asked_file-asked.ensures in
     let text = message_of c.match-asked.outcome in
     let old = g.E.Sink.written c.args.err.now in
-    let new = g.E.Sink.written c.report.new.sink in
-    (c.match-asked.outcome, c.status.ensures, says old new _ _ (text (name_asked c.args.words.now)) c.report.result
-        (subst (λ n. OnOk c.report.result (Gains old new (text n))) named c.report.ensures.whole)
-        (subst (λ n. OnErr c.report.result (GainsPart old new (text n))) named c.report.ensures.part)
-        c.report.ensures.fault)
+    let new = g.E.Sink.written c.report.new.sink in (
+      c.match-asked.outcome,
+      c.status.ensures,
+      says old new _ _ (text (name_asked c.args.words.now)) c.report.result
+          (subst (λ n. OnOk c.report.result (Gains old new (text n))) named c.report.ensures.whole)
+          (subst (λ n. OnErr c.report.result (GainsPart old new (text n))) named c.report.ensures.part)
+          c.report.ensures.fault,
+    )
