@@ -23,7 +23,10 @@ use tree_lists::Items;
 const DEPTH: u32 = 2_400;
 
 #[tactic(auto, unfolding(crate::specs::Programs::variable))]
-fn variable<'a>(alloc: Global, tokens: &'a [CToken<'a>]) -> Result<(CVariable, &'a [CToken<'a>]), ParseError>
+fn variable<'a>(
+    alloc: Global,
+    tokens: &'a [CToken<'a>],
+) -> Result<(CVariable, &'a [CToken<'a>]), ParseError>
     ensures { Gives (λ x. (x.0, tokens_of x.1.now)) result (spec.variable (tokens_of tokens.now)) }
 {
     let (of, rest) = object_type(alloc, tokens)?;
@@ -46,7 +49,10 @@ fn array_length<'a>(tokens: &'a [CToken<'a>]) -> Result<(Option<u64>, &'a [CToke
 }
 
 #[tactic(auto, unfolding(crate::specs::Programs::member))]
-fn member<'a>(alloc: Global, tokens: &'a [CToken<'a>]) -> Result<(CMember, &'a [CToken<'a>]), ParseError>
+fn member<'a>(
+    alloc: Global,
+    tokens: &'a [CToken<'a>],
+) -> Result<(CMember, &'a [CToken<'a>]), ParseError>
     ensures { Gives (λ x. (x.0, tokens_of x.1.now)) result (spec.member (tokens_of tokens.now)) }
 {
     let (CVariable { name, of }, rest) = variable(alloc, tokens)?;
@@ -57,7 +63,11 @@ fn member<'a>(alloc: Global, tokens: &'a [CToken<'a>]) -> Result<(CMember, &'a [
 
 /// A member, behind those before it.
 #[tactic(auto, unfolding(crate::specs::Programs::next_member))]
-fn next_member<'a>(alloc: Global, tokens: &'a [CToken<'a>], all: Items<CMember>) -> Result<(Items<CMember>, &'a [CToken<'a>]), ParseError>
+fn next_member<'a>(
+    alloc: Global,
+    tokens: &'a [CToken<'a>],
+    all: Items<CMember>,
+) -> Result<(Items<CMember>, &'a [CToken<'a>]), ParseError>
     ensures { Gives (λ x. (x.0, tokens_of x.1.now)) result (spec.next_member all (tokens_of tokens.now)) }
 {
     let mut all = all;
@@ -67,7 +77,11 @@ fn next_member<'a>(alloc: Global, tokens: &'a [CToken<'a>], all: Items<CMember>)
 }
 
 /// The members after the first, up to a closing brace.
-fn more_members<'a>(alloc: Global, tokens: &'a [CToken<'a>], first: Items<CMember>) -> Result<(Items<CMember>, &'a [CToken<'a>]), ParseError>
+fn more_members<'a>(
+    alloc: Global,
+    tokens: &'a [CToken<'a>],
+    first: Items<CMember>,
+) -> Result<(Items<CMember>, &'a [CToken<'a>]), ParseError>
     ensures { Gives (λ x. (x.0, tokens_of x.1.now)) result (repeat no_brace spec.next_member first (tokens_of tokens.now)) }
 {
     let mut all = first;
@@ -85,7 +99,10 @@ fn more_members<'a>(alloc: Global, tokens: &'a [CToken<'a>], first: Items<CMembe
 
 /// The members of a struct, with the braces and the semicolon.
 #[tactic(auto, unfolding(crate::specs::Programs::members))]
-pub fn members<'a>(alloc: Global, tokens: &'a [CToken<'a>]) -> Result<(Items<CMember>, &'a [CToken<'a>]), ParseError>
+pub fn members<'a>(
+    alloc: Global,
+    tokens: &'a [CToken<'a>],
+) -> Result<(Items<CMember>, &'a [CToken<'a>]), ParseError>
     ensures { Gives (λ x. (x.0, tokens_of x.1.now)) result (spec.members (tokens_of tokens.now)) }
 {
     let rest = expect(tokens, Mark::OpenBrace)?;
@@ -100,7 +117,11 @@ pub fn members<'a>(alloc: Global, tokens: &'a [CToken<'a>]) -> Result<(Items<CMe
 
 /// A type after a comma, behind those before it.
 #[tactic(auto, unfolding(crate::specs::Programs::next_type))]
-fn next_type<'a>(alloc: Global, tokens: &'a [CToken<'a>], all: Items<CType>) -> Result<(Items<CType>, &'a [CToken<'a>]), ParseError>
+fn next_type<'a>(
+    alloc: Global,
+    tokens: &'a [CToken<'a>],
+    all: Items<CType>,
+) -> Result<(Items<CType>, &'a [CToken<'a>]), ParseError>
     ensures { Gives (λ x. (x.0, tokens_of x.1.now)) result (spec.next_type all (tokens_of tokens.now)) }
 {
     let mut all = all;
@@ -111,7 +132,11 @@ fn next_type<'a>(alloc: Global, tokens: &'a [CToken<'a>], all: Items<CType>) -> 
 }
 
 /// The types after the first.
-fn more_types<'a>(alloc: Global, tokens: &'a [CToken<'a>], first: Items<CType>) -> Result<(Items<CType>, &'a [CToken<'a>]), ParseError>
+fn more_types<'a>(
+    alloc: Global,
+    tokens: &'a [CToken<'a>],
+    first: Items<CType>,
+) -> Result<(Items<CType>, &'a [CToken<'a>]), ParseError>
     ensures { Gives (λ x. (x.0, tokens_of x.1.now)) result (repeat (begins (marks mark.Comma)) spec.next_type first (tokens_of tokens.now)) }
 {
     let mut all = first;
@@ -129,7 +154,10 @@ fn more_types<'a>(alloc: Global, tokens: &'a [CToken<'a>], first: Items<CType>) 
 
 /// The types of parameters in a typedef: `void`, or types with commas.
 #[tactic(auto, unfolding(crate::specs::Programs::types))]
-fn types<'a>(alloc: Global, tokens: &'a [CToken<'a>]) -> Result<(Items<CType>, &'a [CToken<'a>]), ParseError>
+fn types<'a>(
+    alloc: Global,
+    tokens: &'a [CToken<'a>],
+) -> Result<(Items<CType>, &'a [CToken<'a>]), ParseError>
     ensures { Gives (λ x. (x.0, tokens_of x.1.now)) result (spec.types (tokens_of tokens.now)) }
 {
     let (returned, rest) = result_type(alloc, tokens)?;
@@ -145,7 +173,10 @@ fn types<'a>(alloc: Global, tokens: &'a [CToken<'a>]) -> Result<(Items<CType>, &
 
 /// `(*name)`.
 #[tactic(auto, unfolding(crate::specs::Programs::pointer_name))]
-fn pointer_name<'a>(alloc: Global, tokens: &'a [CToken<'a>]) -> Result<(Name, &'a [CToken<'a>]), ParseError>
+fn pointer_name<'a>(
+    alloc: Global,
+    tokens: &'a [CToken<'a>],
+) -> Result<(Name, &'a [CToken<'a>]), ParseError>
     ensures { Gives (λ x. (x.0, tokens_of x.1.now)) result (spec.pointer_name (tokens_of tokens.now)) }
 {
     let rest = expect(tokens, Mark::Open)?;
@@ -156,7 +187,10 @@ fn pointer_name<'a>(alloc: Global, tokens: &'a [CToken<'a>]) -> Result<(Name, &'
 }
 
 #[tactic(auto, unfolding(crate::specs::Programs::typedef))]
-pub fn typedef<'a>(alloc: Global, tokens: &'a [CToken<'a>]) -> Result<(CTypedef, &'a [CToken<'a>]), ParseError>
+pub fn typedef<'a>(
+    alloc: Global,
+    tokens: &'a [CToken<'a>],
+) -> Result<(CTypedef, &'a [CToken<'a>]), ParseError>
     ensures { Gives (λ x. (x.0, tokens_of x.1.now)) result (spec.typedef (tokens_of tokens.now)) }
 {
     let rest = expect_word(tokens, Word::Typedef)?;
@@ -166,12 +200,23 @@ pub fn typedef<'a>(alloc: Global, tokens: &'a [CToken<'a>]) -> Result<(CTypedef,
     let (parameters, rest) = types(alloc, rest)?;
     let rest = expect(rest, Mark::Close)?;
     let rest = expect(rest, Mark::Semicolon)?;
-    Ok((CTypedef { name, result, parameters }, rest))
+    Ok((
+        CTypedef {
+            name,
+            result,
+            parameters,
+        },
+        rest,
+    ))
 }
 
 /// A parameter after a comma, behind those before it.
 #[tactic(auto, unfolding(crate::specs::Programs::next_parameter))]
-fn next_parameter<'a>(alloc: Global, tokens: &'a [CToken<'a>], all: Items<CVariable>) -> Result<(Items<CVariable>, &'a [CToken<'a>]), ParseError>
+fn next_parameter<'a>(
+    alloc: Global,
+    tokens: &'a [CToken<'a>],
+    all: Items<CVariable>,
+) -> Result<(Items<CVariable>, &'a [CToken<'a>]), ParseError>
     ensures { Gives (λ x. (x.0, tokens_of x.1.now)) result (spec.next_parameter all (tokens_of tokens.now)) }
 {
     let mut all = all;
@@ -182,7 +227,11 @@ fn next_parameter<'a>(alloc: Global, tokens: &'a [CToken<'a>], all: Items<CVaria
 }
 
 /// The parameters after the first.
-fn more_parameters<'a>(alloc: Global, tokens: &'a [CToken<'a>], first: Items<CVariable>) -> Result<(Items<CVariable>, &'a [CToken<'a>]), ParseError>
+fn more_parameters<'a>(
+    alloc: Global,
+    tokens: &'a [CToken<'a>],
+    first: Items<CVariable>,
+) -> Result<(Items<CVariable>, &'a [CToken<'a>]), ParseError>
     ensures { Gives (λ x. (x.0, tokens_of x.1.now)) result (repeat (begins (marks mark.Comma)) spec.next_parameter first (tokens_of tokens.now)) }
 {
     let mut all = first;
@@ -199,7 +248,11 @@ fn more_parameters<'a>(alloc: Global, tokens: &'a [CToken<'a>], first: Items<CVa
 }
 
 /// The parameters after what may be the type of the first.
-fn parameters_after<'a>(alloc: Global, tokens: &'a [CToken<'a>], returned: Option<CType>) -> Result<(Items<CVariable>, &'a [CToken<'a>]), ParseError>
+fn parameters_after<'a>(
+    alloc: Global,
+    tokens: &'a [CToken<'a>],
+    returned: Option<CType>,
+) -> Result<(Items<CVariable>, &'a [CToken<'a>]), ParseError>
     ensures { Gives (λ x. (x.0, tokens_of x.1.now)) result (spec.parameters_after returned (tokens_of tokens.now)) }
 {
     let mut all = Items::new(alloc);
@@ -215,7 +268,10 @@ fn parameters_after<'a>(alloc: Global, tokens: &'a [CToken<'a>], returned: Optio
 
 /// The parameters of a function, with the parentheses.
 #[tactic(auto, unfolding(crate::specs::Programs::parameters))]
-pub fn parameters<'a>(alloc: Global, tokens: &'a [CToken<'a>]) -> Result<(Items<CVariable>, &'a [CToken<'a>]), ParseError>
+pub fn parameters<'a>(
+    alloc: Global,
+    tokens: &'a [CToken<'a>],
+) -> Result<(Items<CVariable>, &'a [CToken<'a>]), ParseError>
     ensures { Gives (λ x. (x.0, tokens_of x.1.now)) result (spec.parameters (tokens_of tokens.now)) }
 {
     let rest = expect(tokens, Mark::Open)?;
@@ -231,7 +287,12 @@ fn is_type_word(tokens: &[CToken<'_>]) -> bool
     ensures { result ≡ begins spec.type_words (tokens_of tokens.now) }
 {
     match tokens {
-        [CToken::Quoted(Word::Int64Type | Word::Uint64Type | Word::Unsigned | Word::Struct | Word::Void), ..] => true,
+        [
+            CToken::Quoted(
+                Word::Int64Type | Word::Uint64Type | Word::Unsigned | Word::Struct | Word::Void,
+            ),
+            ..
+        ] => true,
         _ => false,
     }
 }
@@ -250,7 +311,11 @@ fn is_local<'a>(tokens: &'a [CToken<'a>]) -> bool
 
 /// A local, behind those before it.
 #[tactic(auto, unfolding(crate::specs::Programs::next_local))]
-fn next_local<'a>(alloc: Global, tokens: &'a [CToken<'a>], all: Items<CVariable>) -> Result<(Items<CVariable>, &'a [CToken<'a>]), ParseError>
+fn next_local<'a>(
+    alloc: Global,
+    tokens: &'a [CToken<'a>],
+    all: Items<CVariable>,
+) -> Result<(Items<CVariable>, &'a [CToken<'a>]), ParseError>
     ensures { Gives (λ x. (x.0, tokens_of x.1.now)) result (spec.next_local all (tokens_of tokens.now)) }
 {
     let mut all = all;
@@ -260,7 +325,10 @@ fn next_local<'a>(alloc: Global, tokens: &'a [CToken<'a>], all: Items<CVariable>
     Ok((all, rest))
 }
 
-fn locals<'a>(alloc: Global, tokens: &'a [CToken<'a>]) -> Result<(Items<CVariable>, &'a [CToken<'a>]), ParseError>
+fn locals<'a>(
+    alloc: Global,
+    tokens: &'a [CToken<'a>],
+) -> Result<(Items<CVariable>, &'a [CToken<'a>]), ParseError>
     ensures { Gives (λ x. (x.0, tokens_of x.1.now)) result (spec.locals (tokens_of tokens.now)) }
 {
     let mut all = Items::new(alloc);
@@ -278,7 +346,10 @@ fn locals<'a>(alloc: Global, tokens: &'a [CToken<'a>]) -> Result<(Items<CVariabl
 
 /// The locals and the statements of a function, with the braces.
 #[tactic(auto, unfolding(crate::specs::Programs::block))]
-pub fn block<'a>(alloc: Global, tokens: &'a [CToken<'a>]) -> Result<((Items<CVariable>, Items<CStatement>), &'a [CToken<'a>]), ParseError>
+pub fn block<'a>(
+    alloc: Global,
+    tokens: &'a [CToken<'a>],
+) -> Result<((Items<CVariable>, Items<CStatement>), &'a [CToken<'a>]), ParseError>
     ensures { Gives (λ x. (x.0, tokens_of x.1.now)) result (spec.block (tokens_of tokens.now)) }
 {
     let rest = expect(tokens, Mark::OpenBrace)?;

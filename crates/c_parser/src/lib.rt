@@ -9,6 +9,8 @@ mod parsing;
 pub mod program;
 mod statements;
 mod step;
+#[cfg(test)]
+mod tests;
 mod types;
 
 pub use parsing::parse;

@@ -101,7 +101,11 @@ fn with_function(parts: Parts, function: CFunction) -> Result<Parts, AllocError>
 
 /// `;` after `struct name`.
 #[tactic(auto, unfolding(crate::specs::Programs::forward))]
-fn forward<'a>(tokens: &'a [CToken<'a>], parts: Parts, name: Name) -> Result<(Parts, &'a [CToken<'a>]), ParseError>
+fn forward<'a>(
+    tokens: &'a [CToken<'a>],
+    parts: Parts,
+    name: Name,
+) -> Result<(Parts, &'a [CToken<'a>]), ParseError>
     ensures { Gives (λ x. (x.0, tokens_of x.1.now)) result (spec.forward parts name (tokens_of tokens.now)) }
 {
     if !no_declarations(&parts) {
@@ -113,7 +117,12 @@ fn forward<'a>(tokens: &'a [CToken<'a>], parts: Parts, name: Name) -> Result<(Pa
 
 /// The members after `struct name`.
 #[tactic(auto, unfolding(crate::specs::Programs::structure))]
-fn structure<'a>(alloc: Global, tokens: &'a [CToken<'a>], parts: Parts, name: Name) -> Result<(Parts, &'a [CToken<'a>]), ParseError>
+fn structure<'a>(
+    alloc: Global,
+    tokens: &'a [CToken<'a>],
+    parts: Parts,
+    name: Name,
+) -> Result<(Parts, &'a [CToken<'a>]), ParseError>
     ensures { Gives (λ x. (x.0, tokens_of x.1.now)) result (spec.structure parts name (tokens_of tokens.now)) }
 {
     if !no_globals(&parts) {
@@ -125,18 +134,30 @@ fn structure<'a>(alloc: Global, tokens: &'a [CToken<'a>], parts: Parts, name: Na
 }
 
 #[tactic(auto, unfolding(crate::specs::Programs::type_definition))]
-fn type_definition<'a>(alloc: Global, tokens: &'a [CToken<'a>], parts: Parts) -> Result<(Parts, &'a [CToken<'a>]), ParseError>
+fn type_definition<'a>(
+    alloc: Global,
+    tokens: &'a [CToken<'a>],
+    parts: Parts,
+) -> Result<(Parts, &'a [CToken<'a>]), ParseError>
     ensures { Gives (λ x. (x.0, tokens_of x.1.now)) result (spec.type_definition parts (tokens_of tokens.now)) }
 {
     if !no_globals(&parts) {
         return Err(unexpected(tokens));
     }
     let (typedef, rest) = typedef(alloc, tokens)?;
-    Ok((with_declaration(parts, CDeclaration::Typedef(typedef))?, rest))
+    Ok((
+        with_declaration(parts, CDeclaration::Typedef(typedef))?,
+        rest,
+    ))
 }
 
 /// `;` after what may be the type and the name of a global.
-fn global<'a>(tokens: &'a [CToken<'a>], parts: Parts, returned: Option<CType>, name: Name) -> Result<(Parts, &'a [CToken<'a>]), ParseError>
+fn global<'a>(
+    tokens: &'a [CToken<'a>],
+    parts: Parts,
+    returned: Option<CType>,
+    name: Name,
+) -> Result<(Parts, &'a [CToken<'a>]), ParseError>
     ensures { Gives (λ x. (x.0, tokens_of x.1.now)) result (spec.global parts returned name (tokens_of tokens.now)) }
 {
     match returned {
@@ -161,29 +182,73 @@ struct Heading {
 
 /// `;` after the heading of a function.
 #[tactic(auto, unfolding(crate::specs::Programs::prototype))]
-fn prototype<'a>(tokens: &'a [CToken<'a>], parts: Parts, heading: Heading) -> Result<(Parts, &'a [CToken<'a>]), ParseError>
+fn prototype<'a>(
+    tokens: &'a [CToken<'a>],
+    parts: Parts,
+    heading: Heading,
+) -> Result<(Parts, &'a [CToken<'a>]), ParseError>
     ensures { Gives (λ x. (x.0, tokens_of x.1.now)) result (spec.prototype parts heading.result heading.name heading.parameters (tokens_of tokens.now)) }
 {
     if !no_functions(&parts) {
         return Err(unexpected(tokens));
     }
     let rest = expect(tokens, Mark::Semicolon)?;
-    let Heading { name, result, parameters } = heading;
-    Ok((with_prototype(parts, CPrototype { name, result, parameters })?, rest))
+    let Heading {
+        name,
+        result,
+        parameters,
+    } = heading;
+    Ok((
+        with_prototype(
+            parts,
+            CPrototype {
+                name,
+                result,
+                parameters,
+            },
+        )?,
+        rest,
+    ))
 }
 
 /// The block of a function after its heading.
 #[tactic(auto, unfolding(crate::specs::Programs::function))]
-fn function<'a>(alloc: Global, tokens: &'a [CToken<'a>], parts: Parts, heading: Heading) -> Result<(Parts, &'a [CToken<'a>]), ParseError>
+fn function<'a>(
+    alloc: Global,
+    tokens: &'a [CToken<'a>],
+    parts: Parts,
+    heading: Heading,
+) -> Result<(Parts, &'a [CToken<'a>]), ParseError>
     ensures { Gives (λ x. (x.0, tokens_of x.1.now)) result (spec.function parts heading.result heading.name heading.parameters (tokens_of tokens.now)) }
 {
     let ((locals, body), rest) = block(alloc, tokens)?;
-    let Heading { name, result, parameters } = heading;
-    Ok((with_function(parts, CFunction { name, result, parameters, locals, body })?, rest))
+    let Heading {
+        name,
+        result,
+        parameters,
+    } = heading;
+    Ok((
+        with_function(
+            parts,
+            CFunction {
+                name,
+                result,
+                parameters,
+                locals,
+                body,
+            },
+        )?,
+        rest,
+    ))
 }
 
 #[tactic(auto, unfolding(crate::specs::Programs::after_parameters))]
-fn after_parameters<'a>(alloc: Global, tokens: &'a [CToken<'a>], parts: Parts, heading: Heading) -> Result<(Parts, &'a [CToken<'a>]), ParseError>
+fn after_parameters<'a>(
+    alloc: Global,
+    tokens: &'a [CToken<'a>],
+    parts: Parts,
+    heading: Heading,
+) -> Result<(Parts, &'a [CToken<'a>]), ParseError>
     ensures { Gives (λ x. (x.0, tokens_of x.1.now)) result (spec.after_parameters parts heading.result heading.name heading.parameters (tokens_of tokens.now)) }
 {
     if is(tokens, Mark::Semicolon) {
@@ -194,18 +259,38 @@ fn after_parameters<'a>(alloc: Global, tokens: &'a [CToken<'a>], parts: Parts, h
 
 /// What stands after a result and a name.
 #[tactic(auto, unfolding(crate::specs::Programs::after_name))]
-fn after_name<'a>(alloc: Global, tokens: &'a [CToken<'a>], parts: Parts, returned: Option<CType>, name: Name) -> Result<(Parts, &'a [CToken<'a>]), ParseError>
+fn after_name<'a>(
+    alloc: Global,
+    tokens: &'a [CToken<'a>],
+    parts: Parts,
+    returned: Option<CType>,
+    name: Name,
+) -> Result<(Parts, &'a [CToken<'a>]), ParseError>
     ensures { Gives (λ x. (x.0, tokens_of x.1.now)) result (spec.after_name parts returned name (tokens_of tokens.now)) }
 {
     if is(tokens, Mark::Semicolon) {
         return global(tokens, parts, returned, name);
     }
     let (parameters, rest) = parameters(alloc, tokens)?;
-    after_parameters(alloc, rest, parts, Heading { name, result: returned, parameters })
+    after_parameters(
+        alloc,
+        rest,
+        parts,
+        Heading {
+            name,
+            result: returned,
+            parameters,
+        },
+    )
 }
 
 #[tactic(auto, unfolding(crate::specs::Programs::after_result))]
-fn after_result<'a>(alloc: Global, tokens: &'a [CToken<'a>], parts: Parts, returned: Option<CType>) -> Result<(Parts, &'a [CToken<'a>]), ParseError>
+fn after_result<'a>(
+    alloc: Global,
+    tokens: &'a [CToken<'a>],
+    parts: Parts,
+    returned: Option<CType>,
+) -> Result<(Parts, &'a [CToken<'a>]), ParseError>
     ensures { Gives (λ x. (x.0, tokens_of x.1.now)) result (spec.after_result parts returned (tokens_of tokens.now)) }
 {
     let (name, rest) = name(alloc, tokens)?;
@@ -213,7 +298,12 @@ fn after_result<'a>(alloc: Global, tokens: &'a [CToken<'a>], parts: Parts, retur
 }
 
 #[tactic(auto, unfolding(crate::specs::Programs::after_struct_name))]
-fn after_struct_name<'a>(alloc: Global, tokens: &'a [CToken<'a>], parts: Parts, name: Name) -> Result<(Parts, &'a [CToken<'a>]), ParseError>
+fn after_struct_name<'a>(
+    alloc: Global,
+    tokens: &'a [CToken<'a>],
+    parts: Parts,
+    name: Name,
+) -> Result<(Parts, &'a [CToken<'a>]), ParseError>
     ensures { Gives (λ x. (x.0, tokens_of x.1.now)) result (spec.after_struct_name parts name (tokens_of tokens.now)) }
 {
     if is(tokens, Mark::Semicolon) {
@@ -227,7 +317,11 @@ fn after_struct_name<'a>(alloc: Global, tokens: &'a [CToken<'a>], parts: Parts, 
 }
 
 #[tactic(auto, unfolding(crate::specs::Programs::after_struct))]
-fn after_struct<'a>(alloc: Global, tokens: &'a [CToken<'a>], parts: Parts) -> Result<(Parts, &'a [CToken<'a>]), ParseError>
+fn after_struct<'a>(
+    alloc: Global,
+    tokens: &'a [CToken<'a>],
+    parts: Parts,
+) -> Result<(Parts, &'a [CToken<'a>]), ParseError>
     ensures { Gives (λ x. (x.0, tokens_of x.1.now)) result (spec.after_struct parts (tokens_of tokens.now)) }
 {
     let rest = expect_word(tokens, Word::Struct)?;
@@ -237,7 +331,11 @@ fn after_struct<'a>(alloc: Global, tokens: &'a [CToken<'a>], parts: Parts) -> Re
 
 /// One part more of a program, before its `main`.
 #[tactic(auto, unfolding(crate::specs::Programs::next_part))]
-fn next_part<'a>(alloc: Global, tokens: &'a [CToken<'a>], parts: Parts) -> Result<(Parts, &'a [CToken<'a>]), ParseError>
+fn next_part<'a>(
+    alloc: Global,
+    tokens: &'a [CToken<'a>],
+    parts: Parts,
+) -> Result<(Parts, &'a [CToken<'a>]), ParseError>
     ensures { Gives (λ x. (x.0, tokens_of x.1.now)) result (spec.next_part parts (tokens_of tokens.now)) }
 {
     if is_word(tokens, Word::Typedef) {
@@ -263,7 +361,10 @@ fn no_parts(alloc: Global) -> Parts
 }
 
 /// All that stands before `int`.
-fn all_parts<'a>(alloc: Global, tokens: &'a [CToken<'a>]) -> Result<(Parts, &'a [CToken<'a>]), ParseError>
+fn all_parts<'a>(
+    alloc: Global,
+    tokens: &'a [CToken<'a>],
+) -> Result<(Parts, &'a [CToken<'a>]), ParseError>
     ensures { Gives (λ x. (x.0, tokens_of x.1.now)) result (spec.parts (tokens_of tokens.now)) }
 {
     let mut all = no_parts(alloc);
@@ -281,7 +382,10 @@ fn all_parts<'a>(alloc: Global, tokens: &'a [CToken<'a>]) -> Result<(Parts, &'a 
 
 /// `int main(void)` with its block.
 #[tactic(auto, unfolding(crate::specs::Programs::main))]
-fn main_function<'a>(alloc: Global, tokens: &'a [CToken<'a>]) -> Result<(CMain, &'a [CToken<'a>]), ParseError>
+fn main_function<'a>(
+    alloc: Global,
+    tokens: &'a [CToken<'a>],
+) -> Result<(CMain, &'a [CToken<'a>]), ParseError>
     ensures { Gives (λ x. (x.0, tokens_of x.1.now)) result (spec.main (tokens_of tokens.now)) }
 {
     let rest = expect_word(tokens, Word::Int)?;
@@ -296,8 +400,21 @@ fn main_function<'a>(alloc: Global, tokens: &'a [CToken<'a>]) -> Result<(CMain, 
 fn program_of(parts: Parts, main: CMain) -> CProgram
     ensures { result ≡ spec.program_of parts main }
 {
-    let Parts { forwards, declarations, globals, prototypes, functions } = parts;
-    CProgram { forwards, declarations, globals, prototypes, functions, main }
+    let Parts {
+        forwards,
+        declarations,
+        globals,
+        prototypes,
+        functions,
+    } = parts;
+    CProgram {
+        forwards,
+        declarations,
+        globals,
+        prototypes,
+        functions,
+        main,
+    }
 }
 
 /// The program, where no token is left.

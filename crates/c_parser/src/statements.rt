@@ -22,7 +22,12 @@ use tree_lists::Items;
 
 /// An argument after a comma, behind those before it.
 #[tactic(auto, unfolding(crate::specs::Statements::next_argument))]
-fn next_argument<'a>(alloc: Global, tokens: &'a [CToken<'a>], depth: u32, all: Items<CExpr>) -> Result<(Items<CExpr>, &'a [CToken<'a>]), ParseError>
+fn next_argument<'a>(
+    alloc: Global,
+    tokens: &'a [CToken<'a>],
+    depth: u32,
+    all: Items<CExpr>,
+) -> Result<(Items<CExpr>, &'a [CToken<'a>]), ParseError>
     ensures { Gives (λ x. (x.0, tokens_of x.1.now)) result (spec.next_argument (expr_of depth) all (tokens_of tokens.now)) }
 {
     let mut all = all;
@@ -33,7 +38,12 @@ fn next_argument<'a>(alloc: Global, tokens: &'a [CToken<'a>], depth: u32, all: I
 }
 
 /// The arguments after the first.
-fn more_arguments<'a>(alloc: Global, tokens: &'a [CToken<'a>], depth: u32, first: Items<CExpr>) -> Result<(Items<CExpr>, &'a [CToken<'a>]), ParseError>
+fn more_arguments<'a>(
+    alloc: Global,
+    tokens: &'a [CToken<'a>],
+    depth: u32,
+    first: Items<CExpr>,
+) -> Result<(Items<CExpr>, &'a [CToken<'a>]), ParseError>
     ensures { Gives (λ x. (x.0, tokens_of x.1.now)) result (repeat (begins (marks mark.Comma)) (spec.next_argument (expr_of depth)) first (tokens_of tokens.now)) }
 {
     let mut all = first;
@@ -50,7 +60,11 @@ fn more_arguments<'a>(alloc: Global, tokens: &'a [CToken<'a>], depth: u32, first
 }
 
 #[tactic(auto, unfolding(crate::specs::Statements::some_arguments))]
-fn some_arguments<'a>(alloc: Global, tokens: &'a [CToken<'a>], depth: u32) -> Result<(Items<CExpr>, &'a [CToken<'a>]), ParseError>
+fn some_arguments<'a>(
+    alloc: Global,
+    tokens: &'a [CToken<'a>],
+    depth: u32,
+) -> Result<(Items<CExpr>, &'a [CToken<'a>]), ParseError>
     ensures { Gives (λ x. (x.0, tokens_of x.1.now)) result (spec.some_arguments (expr_of depth) (tokens_of tokens.now)) }
 {
     let (argument, rest) = expr(alloc, tokens, depth)?;
@@ -61,7 +75,11 @@ fn some_arguments<'a>(alloc: Global, tokens: &'a [CToken<'a>], depth: u32) -> Re
 
 /// The arguments between the parentheses of a call.
 #[tactic(auto, unfolding(crate::specs::Statements::listed_arguments))]
-fn listed_arguments<'a>(alloc: Global, tokens: &'a [CToken<'a>], depth: u32) -> Result<(Items<CExpr>, &'a [CToken<'a>]), ParseError>
+fn listed_arguments<'a>(
+    alloc: Global,
+    tokens: &'a [CToken<'a>],
+    depth: u32,
+) -> Result<(Items<CExpr>, &'a [CToken<'a>]), ParseError>
     ensures { Gives (λ x. (x.0, tokens_of x.1.now)) result (spec.listed_arguments (expr_of depth) (tokens_of tokens.now)) }
 {
     if is(tokens, Mark::Close) {
@@ -72,7 +90,13 @@ fn listed_arguments<'a>(alloc: Global, tokens: &'a [CToken<'a>], depth: u32) -> 
 
 /// A call, after its callee.
 #[tactic(auto, unfolding(crate::specs::Statements::call))]
-fn call<'a>(alloc: Global, tokens: &'a [CToken<'a>], depth: u32, into: Option<CPlace>, callee: CCallee) -> Result<(CStatement, &'a [CToken<'a>]), ParseError>
+fn call<'a>(
+    alloc: Global,
+    tokens: &'a [CToken<'a>],
+    depth: u32,
+    into: Option<CPlace>,
+    callee: CCallee,
+) -> Result<(CStatement, &'a [CToken<'a>]), ParseError>
     ensures { Gives (λ x. (x.0, tokens_of x.1.now)) result (spec.call (expr_of depth) into callee (tokens_of tokens.now)) }
 {
     let rest = expect(tokens, Mark::Open)?;
@@ -84,7 +108,11 @@ fn call<'a>(alloc: Global, tokens: &'a [CToken<'a>], depth: u32, into: Option<CP
 
 /// `(* pointer)`, as a callee.
 #[tactic(auto, unfolding(crate::specs::Statements::indirect))]
-fn indirect<'a>(alloc: Global, tokens: &'a [CToken<'a>], depth: u32) -> Result<(CCallee, &'a [CToken<'a>]), ParseError>
+fn indirect<'a>(
+    alloc: Global,
+    tokens: &'a [CToken<'a>],
+    depth: u32,
+) -> Result<(CCallee, &'a [CToken<'a>]), ParseError>
     ensures { Gives (λ x. (x.0, tokens_of x.1.now)) result (spec.indirect (expr_of depth) (tokens_of tokens.now)) }
 {
     let rest = expect(tokens, Mark::Open)?;
@@ -95,7 +123,11 @@ fn indirect<'a>(alloc: Global, tokens: &'a [CToken<'a>], depth: u32) -> Result<(
 }
 
 #[tactic(auto, unfolding(crate::specs::Statements::callee))]
-fn callee<'a>(alloc: Global, tokens: &'a [CToken<'a>], depth: u32) -> Result<(CCallee, &'a [CToken<'a>]), ParseError>
+fn callee<'a>(
+    alloc: Global,
+    tokens: &'a [CToken<'a>],
+    depth: u32,
+) -> Result<(CCallee, &'a [CToken<'a>]), ParseError>
     ensures { Gives (λ x. (x.0, tokens_of x.1.now)) result (spec.callee (expr_of depth) (tokens_of tokens.now)) }
 {
     if is_name(tokens) {
@@ -118,7 +150,11 @@ fn malloc_opening<'a>(tokens: &'a [CToken<'a>]) -> Result<&'a [CToken<'a>], Pars
 
 /// `malloc(sizeof(type));`, after the `=`.
 #[tactic(auto, unfolding(crate::specs::Statements::malloc))]
-fn malloc<'a>(alloc: Global, tokens: &'a [CToken<'a>], into: CPlace) -> Result<(CStatement, &'a [CToken<'a>]), ParseError>
+fn malloc<'a>(
+    alloc: Global,
+    tokens: &'a [CToken<'a>],
+    into: CPlace,
+) -> Result<(CStatement, &'a [CToken<'a>]), ParseError>
     ensures { Gives (λ x. (x.0, tokens_of x.1.now)) result (spec.malloc into (tokens_of tokens.now)) }
 {
     let rest = malloc_opening(tokens)?;
@@ -131,7 +167,10 @@ fn malloc<'a>(alloc: Global, tokens: &'a [CToken<'a>], into: CPlace) -> Result<(
 
 /// `getchar();`, after the `=`.
 #[tactic(auto, unfolding(crate::specs::Statements::get_char))]
-fn get_char<'a>(tokens: &'a [CToken<'a>], into: CPlace) -> Result<(CStatement, &'a [CToken<'a>]), ParseError>
+fn get_char<'a>(
+    tokens: &'a [CToken<'a>],
+    into: CPlace,
+) -> Result<(CStatement, &'a [CToken<'a>]), ParseError>
     ensures { Gives (λ x. (x.0, tokens_of x.1.now)) result (spec.get_char into (tokens_of tokens.now)) }
 {
     let rest = expect_word(tokens, Word::GetChar)?;
@@ -143,7 +182,12 @@ fn get_char<'a>(tokens: &'a [CToken<'a>], into: CPlace) -> Result<(CStatement, &
 
 /// A value that is assigned, after the `=`.
 #[tactic(auto, unfolding(crate::specs::Statements::value))]
-fn value<'a>(alloc: Global, tokens: &'a [CToken<'a>], depth: u32, into: CPlace) -> Result<(CStatement, &'a [CToken<'a>]), ParseError>
+fn value<'a>(
+    alloc: Global,
+    tokens: &'a [CToken<'a>],
+    depth: u32,
+    into: CPlace,
+) -> Result<(CStatement, &'a [CToken<'a>]), ParseError>
     ensures { Gives (λ x. (x.0, tokens_of x.1.now)) result (spec.value (expr_of depth) into (tokens_of tokens.now)) }
 {
     let (value, rest) = expr(alloc, tokens, depth)?;
@@ -153,7 +197,12 @@ fn value<'a>(alloc: Global, tokens: &'a [CToken<'a>], depth: u32, into: CPlace) 
 
 /// A call whose answer is assigned, after the `=`.
 #[tactic(auto, unfolding(crate::specs::Statements::call_into))]
-fn call_into<'a>(alloc: Global, tokens: &'a [CToken<'a>], depth: u32, into: CPlace) -> Result<(CStatement, &'a [CToken<'a>]), ParseError>
+fn call_into<'a>(
+    alloc: Global,
+    tokens: &'a [CToken<'a>],
+    depth: u32,
+    into: CPlace,
+) -> Result<(CStatement, &'a [CToken<'a>]), ParseError>
     ensures { Gives (λ x. (x.0, tokens_of x.1.now)) result (spec.call_into (expr_of depth) into (tokens_of tokens.now)) }
 {
     let (callee, rest) = callee(alloc, tokens, depth)?;
@@ -197,7 +246,12 @@ fn is_call<'a>(tokens: &'a [CToken<'a>]) -> bool
 
 /// An assignment, after its place.
 #[tactic(auto, unfolding(crate::specs::Statements::assigned))]
-fn assigned<'a>(alloc: Global, tokens: &'a [CToken<'a>], depth: u32, into: CPlace) -> Result<(CStatement, &'a [CToken<'a>]), ParseError>
+fn assigned<'a>(
+    alloc: Global,
+    tokens: &'a [CToken<'a>],
+    depth: u32,
+    into: CPlace,
+) -> Result<(CStatement, &'a [CToken<'a>]), ParseError>
     ensures { Gives (λ x. (x.0, tokens_of x.1.now)) result (spec.assigned (expr_of depth) into (tokens_of tokens.now)) }
 {
     let rest = expect(tokens, Mark::Assign)?;
@@ -237,7 +291,12 @@ fn label_of(place: CPlace) -> Option<Name>
 }
 
 /// A call without an answer, after what may be its callee.
-fn called<'a>(alloc: Global, tokens: &'a [CToken<'a>], depth: u32, callee: Option<CCallee>) -> Result<(CStatement, &'a [CToken<'a>]), ParseError>
+fn called<'a>(
+    alloc: Global,
+    tokens: &'a [CToken<'a>],
+    depth: u32,
+    callee: Option<CCallee>,
+) -> Result<(CStatement, &'a [CToken<'a>]), ParseError>
     ensures { Gives (λ x. (x.0, tokens_of x.1.now)) result (spec.called (expr_of depth) callee (tokens_of tokens.now)) }
 {
     match callee {
@@ -247,7 +306,10 @@ fn called<'a>(alloc: Global, tokens: &'a [CToken<'a>], depth: u32, callee: Optio
 }
 
 /// `: ;`, after what may be a label.
-fn labelled<'a>(tokens: &'a [CToken<'a>], label: Option<Name>) -> Result<(CStatement, &'a [CToken<'a>]), ParseError>
+fn labelled<'a>(
+    tokens: &'a [CToken<'a>],
+    label: Option<Name>,
+) -> Result<(CStatement, &'a [CToken<'a>]), ParseError>
     ensures { Gives (λ x. (x.0, tokens_of x.1.now)) result (spec.labelled label (tokens_of tokens.now)) }
 {
     match label {
@@ -262,7 +324,12 @@ fn labelled<'a>(tokens: &'a [CToken<'a>], label: Option<Name>) -> Result<(CState
 
 /// A statement that begins with a place, after it.
 #[tactic(auto, unfolding(crate::specs::Statements::placed))]
-fn placed<'a>(alloc: Global, tokens: &'a [CToken<'a>], depth: u32, place: CPlace) -> Result<(CStatement, &'a [CToken<'a>]), ParseError>
+fn placed<'a>(
+    alloc: Global,
+    tokens: &'a [CToken<'a>],
+    depth: u32,
+    place: CPlace,
+) -> Result<(CStatement, &'a [CToken<'a>]), ParseError>
     ensures { Gives (λ x. (x.0, tokens_of x.1.now)) result (spec.placed (expr_of depth) place (tokens_of tokens.now)) }
 {
     if is(tokens, Mark::Assign) {
@@ -275,7 +342,11 @@ fn placed<'a>(alloc: Global, tokens: &'a [CToken<'a>], depth: u32, place: CPlace
 }
 
 #[tactic(auto, unfolding(crate::specs::Statements::free))]
-fn free<'a>(alloc: Global, tokens: &'a [CToken<'a>], depth: u32) -> Result<(CStatement, &'a [CToken<'a>]), ParseError>
+fn free<'a>(
+    alloc: Global,
+    tokens: &'a [CToken<'a>],
+    depth: u32,
+) -> Result<(CStatement, &'a [CToken<'a>]), ParseError>
     ensures { Gives (λ x. (x.0, tokens_of x.1.now)) result (spec.free (expr_of depth) (tokens_of tokens.now)) }
 {
     let rest = expect_word(tokens, Word::Free)?;
@@ -287,7 +358,11 @@ fn free<'a>(alloc: Global, tokens: &'a [CToken<'a>], depth: u32) -> Result<(CSta
 }
 
 #[tactic(auto, unfolding(crate::specs::Statements::put_char))]
-fn put_char<'a>(alloc: Global, tokens: &'a [CToken<'a>], depth: u32) -> Result<(CStatement, &'a [CToken<'a>]), ParseError>
+fn put_char<'a>(
+    alloc: Global,
+    tokens: &'a [CToken<'a>],
+    depth: u32,
+) -> Result<(CStatement, &'a [CToken<'a>]), ParseError>
     ensures { Gives (λ x. (x.0, tokens_of x.1.now)) result (spec.put_char (expr_of depth) (tokens_of tokens.now)) }
 {
     let rest = expect_word(tokens, Word::PutChar)?;
@@ -299,7 +374,10 @@ fn put_char<'a>(alloc: Global, tokens: &'a [CToken<'a>], depth: u32) -> Result<(
 }
 
 #[tactic(auto, unfolding(crate::specs::Statements::goto))]
-fn goto_label<'a>(alloc: Global, tokens: &'a [CToken<'a>]) -> Result<(CStatement, &'a [CToken<'a>]), ParseError>
+fn goto_label<'a>(
+    alloc: Global,
+    tokens: &'a [CToken<'a>],
+) -> Result<(CStatement, &'a [CToken<'a>]), ParseError>
     ensures { Gives (λ x. (x.0, tokens_of x.1.now)) result (spec.goto (tokens_of tokens.now)) }
 {
     let rest = expect_word(tokens, Word::Goto)?;
@@ -309,7 +387,11 @@ fn goto_label<'a>(alloc: Global, tokens: &'a [CToken<'a>]) -> Result<(CStatement
 }
 
 #[tactic(auto, unfolding(crate::specs::Statements::returned))]
-fn returned<'a>(alloc: Global, tokens: &'a [CToken<'a>], depth: u32) -> Result<(Option<CExpr>, &'a [CToken<'a>]), ParseError>
+fn returned<'a>(
+    alloc: Global,
+    tokens: &'a [CToken<'a>],
+    depth: u32,
+) -> Result<(Option<CExpr>, &'a [CToken<'a>]), ParseError>
     ensures { Gives (λ x. (x.0, tokens_of x.1.now)) result (spec.returned (expr_of depth) (tokens_of tokens.now)) }
 {
     if is(tokens, Mark::Semicolon) {
@@ -320,7 +402,11 @@ fn returned<'a>(alloc: Global, tokens: &'a [CToken<'a>], depth: u32) -> Result<(
 }
 
 #[tactic(auto, unfolding(crate::specs::Statements::return_with))]
-fn return_value<'a>(alloc: Global, tokens: &'a [CToken<'a>], depth: u32) -> Result<(CStatement, &'a [CToken<'a>]), ParseError>
+fn return_value<'a>(
+    alloc: Global,
+    tokens: &'a [CToken<'a>],
+    depth: u32,
+) -> Result<(CStatement, &'a [CToken<'a>]), ParseError>
     ensures { Gives (λ x. (x.0, tokens_of x.1.now)) result (spec.return_with (expr_of depth) (tokens_of tokens.now)) }
 {
     let rest = expect_word(tokens, Word::Return)?;
@@ -330,7 +416,11 @@ fn return_value<'a>(alloc: Global, tokens: &'a [CToken<'a>], depth: u32) -> Resu
 }
 
 /// A statement that begins with a place.
-fn by_place<'a>(alloc: Global, tokens: &'a [CToken<'a>], depth: u32) -> Result<(CStatement, &'a [CToken<'a>]), ParseError>
+fn by_place<'a>(
+    alloc: Global,
+    tokens: &'a [CToken<'a>],
+    depth: u32,
+) -> Result<(CStatement, &'a [CToken<'a>]), ParseError>
     ensures { Gives (λ x. (x.0, tokens_of x.1.now)) result (and_then (place_of (expr_of depth) (tokens_of tokens.now)) (spec.placed (expr_of depth))) }
 {
     let (place, rest) = place(alloc, tokens, depth)?;
@@ -339,7 +429,11 @@ fn by_place<'a>(alloc: Global, tokens: &'a [CToken<'a>], depth: u32) -> Result<(
 
 /// A statement without a body.
 #[tactic(auto, unfolding(crate::specs::Statements::simple))]
-fn simple<'a>(alloc: Global, tokens: &'a [CToken<'a>], depth: u32) -> Result<(CStatement, &'a [CToken<'a>]), ParseError>
+fn simple<'a>(
+    alloc: Global,
+    tokens: &'a [CToken<'a>],
+    depth: u32,
+) -> Result<(CStatement, &'a [CToken<'a>]), ParseError>
     ensures { Gives (λ x. (x.0, tokens_of x.1.now)) result (spec.simple (expr_of depth) (tokens_of tokens.now)) }
 {
     if is_word(tokens, Word::Free) {
@@ -359,7 +453,11 @@ fn simple<'a>(alloc: Global, tokens: &'a [CToken<'a>], depth: u32) -> Result<(CS
 
 /// The test of an `if` or a `while`.
 #[tactic(auto, unfolding(crate::specs::Statements::test))]
-fn test<'a>(alloc: Global, tokens: &'a [CToken<'a>], depth: u32) -> Result<(CExpr, &'a [CToken<'a>]), ParseError>
+fn test<'a>(
+    alloc: Global,
+    tokens: &'a [CToken<'a>],
+    depth: u32,
+) -> Result<(CExpr, &'a [CToken<'a>]), ParseError>
     ensures { Gives (λ x. (x.0, tokens_of x.1.now)) result (spec.test (expr_of depth) (tokens_of tokens.now)) }
 {
     let rest = expect(tokens, Mark::Open)?;
@@ -371,7 +469,12 @@ fn test<'a>(alloc: Global, tokens: &'a [CToken<'a>], depth: u32) -> Result<(CExp
 /// A statement, behind those before it.
 #[tactic(auto, unfolding(crate::specs::Statements::next_statement))]
 #[cycle(nesting)]
-fn next_statement<'a>(alloc: Global, tokens: &'a [CToken<'a>], depth: u32, all: Items<CStatement>) -> Result<(Items<CStatement>, &'a [CToken<'a>]), ParseError>
+fn next_statement<'a>(
+    alloc: Global,
+    tokens: &'a [CToken<'a>],
+    depth: u32,
+    all: Items<CStatement>,
+) -> Result<(Items<CStatement>, &'a [CToken<'a>]), ParseError>
     ensures { Gives (λ x. (x.0, tokens_of x.1.now)) result (spec.next_statement (spec.statement depth) all (tokens_of tokens.now)) }
 {
     let mut all = all;
@@ -382,7 +485,11 @@ fn next_statement<'a>(alloc: Global, tokens: &'a [CToken<'a>], depth: u32, all: 
 
 /// The statements up to a closing brace.
 #[cycle(nesting)]
-pub fn statements<'a>(alloc: Global, tokens: &'a [CToken<'a>], depth: u32) -> Result<(Items<CStatement>, &'a [CToken<'a>]), ParseError>
+pub fn statements<'a>(
+    alloc: Global,
+    tokens: &'a [CToken<'a>],
+    depth: u32,
+) -> Result<(Items<CStatement>, &'a [CToken<'a>]), ParseError>
     ensures { Gives (λ x. (x.0, tokens_of x.1.now)) result (spec.statements (spec.statement depth) (tokens_of tokens.now)) }
 {
     let mut all = Items::new(alloc);
@@ -401,7 +508,11 @@ pub fn statements<'a>(alloc: Global, tokens: &'a [CToken<'a>], depth: u32) -> Re
 /// The statements between two braces.
 #[tactic(auto, unfolding(crate::specs::Statements::body))]
 #[cycle(nesting)]
-fn body<'a>(alloc: Global, tokens: &'a [CToken<'a>], depth: u32) -> Result<(Items<CStatement>, &'a [CToken<'a>]), ParseError>
+fn body<'a>(
+    alloc: Global,
+    tokens: &'a [CToken<'a>],
+    depth: u32,
+) -> Result<(Items<CStatement>, &'a [CToken<'a>]), ParseError>
     ensures { Gives (λ x. (x.0, tokens_of x.1.now)) result (spec.body (spec.statement depth) (tokens_of tokens.now)) }
 {
     let rest = expect(tokens, Mark::OpenBrace)?;
@@ -413,7 +524,13 @@ fn body<'a>(alloc: Global, tokens: &'a [CToken<'a>], depth: u32) -> Result<(Item
 /// `else` with its body, after the rest of its `if`.
 #[tactic(auto, unfolding(crate::specs::Statements::otherwise))]
 #[cycle(nesting)]
-fn otherwise<'a>(alloc: Global, tokens: &'a [CToken<'a>], depth: u32, test: CExpr, first: Items<CStatement>) -> Result<(CStatement, &'a [CToken<'a>]), ParseError>
+fn otherwise<'a>(
+    alloc: Global,
+    tokens: &'a [CToken<'a>],
+    depth: u32,
+    test: CExpr,
+    first: Items<CStatement>,
+) -> Result<(CStatement, &'a [CToken<'a>]), ParseError>
     ensures { Gives (λ x. (x.0, tokens_of x.1.now)) result (spec.otherwise (spec.statement depth) test first (tokens_of tokens.now)) }
 {
     let rest = expect_word(tokens, Word::Else)?;
@@ -423,7 +540,11 @@ fn otherwise<'a>(alloc: Global, tokens: &'a [CToken<'a>], depth: u32, test: CExp
 
 #[tactic(auto, unfolding(crate::specs::Statements::conditional))]
 #[cycle(nesting)]
-fn conditional<'a>(alloc: Global, tokens: &'a [CToken<'a>], depth: u32) -> Result<(CStatement, &'a [CToken<'a>]), ParseError>
+fn conditional<'a>(
+    alloc: Global,
+    tokens: &'a [CToken<'a>],
+    depth: u32,
+) -> Result<(CStatement, &'a [CToken<'a>]), ParseError>
     ensures { Gives (λ x. (x.0, tokens_of x.1.now)) result (spec.conditional (expr_of depth) (spec.statement depth) (tokens_of tokens.now)) }
 {
     let rest = expect_word(tokens, Word::If)?;
@@ -437,7 +558,11 @@ fn conditional<'a>(alloc: Global, tokens: &'a [CToken<'a>], depth: u32) -> Resul
 
 #[tactic(auto, unfolding(crate::specs::Statements::while_loop))]
 #[cycle(nesting)]
-fn while_loop<'a>(alloc: Global, tokens: &'a [CToken<'a>], depth: u32) -> Result<(CStatement, &'a [CToken<'a>]), ParseError>
+fn while_loop<'a>(
+    alloc: Global,
+    tokens: &'a [CToken<'a>],
+    depth: u32,
+) -> Result<(CStatement, &'a [CToken<'a>]), ParseError>
     ensures { Gives (λ x. (x.0, tokens_of x.1.now)) result (spec.while_loop (expr_of depth) (spec.statement depth) (tokens_of tokens.now)) }
 {
     let rest = expect_word(tokens, Word::While)?;
@@ -449,7 +574,11 @@ fn while_loop<'a>(alloc: Global, tokens: &'a [CToken<'a>], depth: u32) -> Result
 /// A statement whose parts have `depth` levels.
 #[tactic(auto, unfolding(crate::specs::Statements::statement_by))]
 #[cycle(nesting)]
-fn statement_by<'a>(alloc: Global, tokens: &'a [CToken<'a>], depth: u32) -> Result<(CStatement, &'a [CToken<'a>]), ParseError>
+fn statement_by<'a>(
+    alloc: Global,
+    tokens: &'a [CToken<'a>],
+    depth: u32,
+) -> Result<(CStatement, &'a [CToken<'a>]), ParseError>
     ensures { Gives (λ x. (x.0, tokens_of x.1.now)) result (spec.statement_by (expr_of depth) (spec.statement depth) (tokens_of tokens.now)) }
 {
     if is_word(tokens, Word::If) {
@@ -462,7 +591,11 @@ fn statement_by<'a>(alloc: Global, tokens: &'a [CToken<'a>], depth: u32) -> Resu
 }
 
 #[cycle(nesting)]
-fn statement<'a>(alloc: Global, tokens: &'a [CToken<'a>], depth: u32) -> Result<(CStatement, &'a [CToken<'a>]), ParseError>
+fn statement<'a>(
+    alloc: Global,
+    tokens: &'a [CToken<'a>],
+    depth: u32,
+) -> Result<(CStatement, &'a [CToken<'a>]), ParseError>
     ensures { Gives (λ x. (x.0, tokens_of x.1.now)) result (spec.statement depth (tokens_of tokens.now)) }
 {
     if depth == 0 {

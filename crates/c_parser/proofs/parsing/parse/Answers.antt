@@ -13,14 +13,14 @@ use Rattle.c_parser.proofs.parsing.parse.Goals as goal
 refused : {Y : Type 0} (e : ParseError) (f : Refusal) (read : Result Y Refusal) → Fails e read → e ≡ At f → read ≡ Err f
 refused e f read h is = subst (λ (e : ParseError). Fails e read) is h
 
-pub overflow_sub-result : goal.overflow_sub-result
-overflow_sub-result c =
+pub before-requires : goal.before-requires
+before-requires c =
     let is : c.in-Err-At-Unexpected.field-0 ≡ At (Unexpected c.in-Err-At-Unexpected.left) = first_of (cc, search rules, grind (arith, common_steps)) in
     let e = refused _ _ _ c.in-Err-At-Unexpected.ensures is in
     omega (arith, as_long c.args.tokens.now, unexpected_within (tokens_of c.args.tokens.now) c.in-Err-At-Unexpected.left e)
 
-pub overflow_sub-result-in-Err-At-TooDeep : goal.overflow_sub-result-in-Err-At-TooDeep
-overflow_sub-result-in-Err-At-TooDeep c =
+pub before-requires-in-Err-At-TooDeep : goal.before-requires-in-Err-At-TooDeep
+before-requires-in-Err-At-TooDeep c =
     let is : c.in-Err-At-TooDeep.field-0 ≡ At (TooDeep c.in-Err-At-TooDeep.left) = first_of (cc, search rules, grind (arith, common_steps)) in
     let e = refused _ _ _ c.in-Err-At-TooDeep.ensures is in
     omega (arith, as_long c.args.tokens.now, too_deep_within (tokens_of c.args.tokens.now) c.in-Err-At-TooDeep.left e)

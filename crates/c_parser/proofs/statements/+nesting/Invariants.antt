@@ -36,7 +36,6 @@ decreases-while_loop l = 16 * l.depth + 5
 abbrev pub decreases-statement_by : goal.decreases-statement_by
 decreases-statement_by l = 16 * l.depth + 6
 
-
 -- what is still to read gives what the whole gives
 abbrev pub invariant-statements-loop-turn : goal.invariant-statements-loop-turn
 invariant-statements-loop-turn l = statements.statements (statements.statement l.depth) (tokens_of l.fn.tokens) ≡ again statements.no_brace (statements.next_statement (statements.statement l.depth)) (l._turn-end - l._turn) l.all (tokens_of l.rest)

@@ -17,16 +17,16 @@ loop-opened-preserved c =
     let some : 0 < length c.loop-opened.rest.now = first_of (search rules, grind (arith, common_steps)) in
     let less = behind_shorter c.loop-opened.rest.now c.after-rest.result.now c.after-rest.ensures some in
     elim c.if-is.branch [
-    | then-is w ↦
-        let e = group_opens c.loop-opened.opened (tokens_of c.loop-opened.rest.now) (sym c.is.ensures ∙ w.if-is.true) in
-        (cc (e, w.opened-is, c.after-rest.ensures), omega (arith, less, w.opened-is))
-    | else-is+then-is-2+else-opened-eq0 w ↦
-        let left : 0 < c.loop-opened.opened = omega (arith, w.if-opened-eq0.false) in
-        let e = group_closes c.loop-opened.opened (tokens_of c.loop-opened.rest.now) (sym c.is.ensures ∙ w.if-is.false) (sym w.is-else-is.ensures ∙ w.if-is-2.true) left in
-        (cc (e, w.opened-is, c.after-rest.ensures), omega (arith, less, w.opened-is))
-    | else-is+else-is-2 w ↦
-        let e = group_goes_on c.loop-opened.opened (tokens_of c.loop-opened.rest.now) (sym c.is.ensures ∙ w.if-is.false) (sym w.is-else-is.ensures ∙ w.if-is-2.false) in
-        (cc (e, w.opened-is, c.after-rest.ensures), omega (arith, less, w.opened-is))
+      | then-is w ↦
+          let e = group_opens c.loop-opened.opened (tokens_of c.loop-opened.rest.now) (sym c.is.ensures ∙ w.if-is.true) in
+          (cc (e, w.opened-is, c.after-rest.ensures), omega (arith, less, w.opened-is))
+      | else-is+then-is-2+else-opened-eq0 w ↦
+          let left : 0 < c.loop-opened.opened = omega (arith, w.if-opened-eq0.false) in
+          let e = group_closes c.loop-opened.opened (tokens_of c.loop-opened.rest.now) (sym c.is.ensures ∙ w.if-is.false) (sym w.is-else-is.ensures ∙ w.if-is-2.true) left in
+          (cc (e, w.opened-is, c.after-rest.ensures), omega (arith, less, w.opened-is))
+      | else-is+else-is-2 w ↦
+          let e = group_goes_on c.loop-opened.opened (tokens_of c.loop-opened.rest.now) (sym c.is.ensures ∙ w.if-is.false) (sym w.is-else-is.ensures ∙ w.if-is-2.false) in
+          (cc (e, w.opened-is, c.after-rest.ensures), omega (arith, less, w.opened-is))
     ]
 
 pub returns : goal.returns
