@@ -152,23 +152,42 @@ fn put_signs(into: &mut Vec<CToken<'static>>, signs: usize) -> Result<(), AllocE
     put_all(into, &[";", "}"])
 }
 
-static LEVELS: [(usize, &str); 2] = [
-    (
-        2_398,
-        "0 forwards, 0 declarations, 0 globals, 0 prototypes, 0 functions, 0 locals, 1 statements",
-    ),
-    (2_399, "too deep 4806"),
-];
+/// So many branches inside each other, and the end of `main`.
+fn put_branches(into: &mut Vec<CToken<'static>>, branches: usize) -> Result<(), AllocError> {
+    for _branch in 0..branches {
+        put_all(into, &["if", "(", "x", ")", "{"])?;
+    }
+    for _branch in 0..branches {
+        put_all(into, &["}"])?;
+    }
+    put_all(into, &["}"])
+}
+
+static ONE_STATEMENT: &str =
+    "0 forwards, 0 declarations, 0 globals, 0 prototypes, 0 functions, 0 locals, 1 statements";
 
 #[test]
-fn levels_are_bounded(rt: HostRuntime) -> Result<(), Fail> {
+fn levels_of_expressions_are_bounded(rt: HostRuntime) -> Result<(), Fail> {
     let alloc = rt.alloc();
-    for (signs, want) in &LEVELS {
+    for (signs, want) in [(2_398, ONE_STATEMENT), (2_399, "too deep 4806")] {
         let mut tokens = Vec::new(alloc);
         put_all(&mut tokens, &HEADING)?;
-        put_signs(&mut tokens, *signs)?;
+        put_signs(&mut tokens, signs)?;
         let found = shown(alloc, tokens.as_slice())?;
-        assert_eq!(rt; found.as_str(), *want);
+        assert_eq!(rt; found.as_str(), want);
+    }
+    Ok(())
+}
+
+#[test]
+fn levels_of_statements_are_bounded(rt: HostRuntime) -> Result<(), Fail> {
+    let alloc = rt.alloc();
+    for (branches, want) in [(2_399, ONE_STATEMENT), (2_400, "too deep 12003")] {
+        let mut tokens = Vec::new(alloc);
+        put_all(&mut tokens, &HEADING)?;
+        put_branches(&mut tokens, branches)?;
+        let found = shown(alloc, tokens.as_slice())?;
+        assert_eq!(rt; found.as_str(), want);
     }
     Ok(())
 }
