@@ -5,6 +5,7 @@ pub mod FairPrograms
 pub mod FairStatements
 pub mod FairTokens
 pub mod FairTypes
+pub mod Groups
 pub mod Holes
 pub mod PartsHoles
 pub mod Pushed

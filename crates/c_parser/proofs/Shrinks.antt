@@ -1,5 +1,5 @@
 -- No parser gives tokens back.
-use Rattle.std.proofs.Common.{ℕ, zero, suc, Bool, true, false, List, [], ◌∷◌, length, Option, Some, None, Ok}
+use Rattle.std.proofs.Common.{◌≡◌, ℕ, zero, suc, ◌+◌, ◌<◌, ◌≤◌, Bool, true, false, List, [], ◌∷◌, length, Option, Some, None, Ok, Err, arith}
 use Rattle.c_tree.specs.Tree.{ObjectType, VoidPointer, Expr, Place, Variable, Pointee, Member, Index, Statement}
 use Rattle.c_tree.specs.declared.statement.CCallee.{CCallee}
 use Rattle.c_tree.specs.declared.program.CVariable.{CVariable}
@@ -7,15 +7,16 @@ use Rattle.c_tree.specs.declared.program.CMember.{CMember}
 use Rattle.c_grammar.specs.declared.token.Word.TheVariants as word
 use Rattle.c_grammar.specs.declared.token.Mark.TheVariants as mark
 use Rattle.c_grammar.specs.Token.{Token}
-use Rattle.token_parsing.specs.Parser.{Parser, and_then, begins, either}
-use Rattle.token_parsing.proofs.Tracked.{Shrinks, refuses_short, short, one_shrinks, then_shrinks, pure_shrinks, refuse_shrinks, stop_shrinks, either_shrinks, repeat_shrinks}
+use Rattle.token_parsing.specs.Parser.{Outcome, Parser, and_then, begins, either}
+use Rattle.token_parsing.specs.declared.refusal.Refusal.TheVariants.{Unexpected, TooDeep}
+use Rattle.token_parsing.proofs.Tracked.{Shrinks, Shorter, refuses_short, stops_short, short, one_shrinks, then_shrinks, pure_shrinks, refuse_shrinks, stop_shrinks, either_shrinks, repeat_shrinks}
 use Rattle.c_parser.specs.declared.program.Parts.{Parts}
 use Rattle.c_parser.specs.Classes.{names, words, marks, unaries, expect}
 use Rattle.c_parser.specs.Types.{struct_type, byte_type, void_pointer, base_type, pointer_to, stars, object_type, after_void, result_type, struct_pointer, void_cast, cast_type}
 use Rattle.c_parser.specs.Expressions.{number, word_number, null, member, element, selected, begins_selector, selectors, pointee, variable, base_place, place, read_pointee, address, unary, binary, cast, begins_cast, opened, read_variable, expr_by, expr}
 use Rattle.c_parser.specs.Statements.{next_argument, some_arguments, listed_arguments, call, indirect, callee, calls, malloc_opening, malloc, get_char, value, call_into, assigned, callee_of, label_of, called, labelled, placed, free, put_char, goto, returned, return_with, no_brace, next_statement, statements, body, test, otherwise, conditional, while_loop, simple, statement_by, statement}
 use Rattle.c_parser.specs.Programs as programs
-use Rattle.c_parser.specs.Programs.{array_length, next_member, members, next_type, types_after, types, typedef_of, pointer_name, typedef, next_parameter, parameters_after, parameters, begins_local, next_local, locals, block, no_functions, no_prototypes, no_globals, no_declarations, when, forward, structure, type_definition, global, prototype, function, after_parameters, after_name, after_result, after_struct_name, after_struct, next_part, parts, main, end_of, program}
+use Rattle.c_parser.specs.Programs.{array_length, next_member, members, next_type, types_after, types, typedef_of, pointer_name, typedef, next_parameter, parameters_after, parameters, begins_local, next_local, locals, block, no_functions, no_prototypes, no_globals, no_declarations, when, forward, structure, type_definition, global, prototype, function, after_parameters, after_name, after_result, after_struct_name, after_struct, next_part, no_int, no_parts, parts, main, end_of, program}
 
 -- ---- types
 
@@ -340,3 +341,25 @@ main_shrinks =
 pub end_shrinks : {A : Type 0} (a : A) → Shrinks (end_of a)
 end_shrinks a n [] h = short a [] h
 end_shrinks a n (t ∷ s) h = refuses_short (length (t ∷ s)) h
+
+pub program_shrinks : Shrinks program
+unfolding program parts
+program_shrinks = then_shrinks (repeat_shrinks no_int next_part next_part_shrinks no_parts) (λ p. then_shrinks main_shrinks (λ m. end_shrinks _))
+
+-- ---- a refused token is one of those that were given, or the end
+
+refused_in : {A : Type 0} {n m : ℕ} (o : Outcome Token A) → Shorter n m o → (k : ℕ) → o ≡ Err (Unexpected k) → k < n
+refused_in _ (short a r h) k e = absurd cc
+refused_in _ (refuses_short i h) k e = let same : i ≡ k = cc in omega arith
+refused_in _ (stops_short i h) k e = absurd cc
+
+stopped_in : {A : Type 0} {n m : ℕ} (o : Outcome Token A) → Shorter n m o → (k : ℕ) → o ≡ Err (TooDeep k) → k < n + m
+stopped_in _ (short a r h) k e = absurd cc
+stopped_in _ (refuses_short i h) k e = absurd cc
+stopped_in _ (stops_short i h) k e = let same : i ≡ k = cc in omega arith
+
+pub unexpected_within : (tokens : List Token) (left : ℕ) → program tokens ≡ Err (Unexpected left) → left ≤ length tokens
+unexpected_within tokens left e = let below = refused_in (program tokens) (program_shrinks (suc (length tokens)) tokens (omega arith)) left e in omega arith
+
+pub too_deep_within : (tokens : List Token) (left : ℕ) → program tokens ≡ Err (TooDeep left) → left ≤ length tokens
+too_deep_within tokens left e = let below = stopped_in (program tokens) (program_shrinks (suc (length tokens)) tokens (omega arith)) left e in omega arith

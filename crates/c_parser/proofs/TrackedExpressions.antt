@@ -349,7 +349,7 @@ expr_deep (Cast to a) = omega arith
 
 expr_opens : (d : ℕ) → Opens (expr d)
 unfolding expr expr_by begins same_mark
-expr_opens zero r = stops_short (suc (length r))
+expr_opens zero r = stops_short (suc (length r)) (omega arith)
 expr_opens (suc d) r = begun_short (marks mark.Open) (Sign mark.Open) r refl (λ _. opened_shrinks (expr d) (expr_shrinks d))
 
 pub expr_tracked : (n : ℕ) (W : Type 0) (d : ℕ) → ExprTracked n W d (expr d)

@@ -142,7 +142,7 @@ body_no_local (a ∷ more) w = statement_no_local a (spell_body (body_of more) (
 
 statement_name_short : (d : ℕ) (name : List ℕ) (r : List Token) → Short (suc (length r)) (statement d (Identifier name ∷ r))
 unfolding statement statement_by simple place base_place variable begins
-statement_name_short zero name r = stops_short _
+statement_name_short zero name r = stops_short _ (omega arith)
 statement_name_short (suc d) name r =
     short_then (short_then (begun_short names (Identifier name) r refl (λ _. pure_shrinks _)) (λ p. selectors_shrinks (expr d) (expr_shrinks d) p)) (placed_shrinks (expr d) (expr_shrinks d))
 

@@ -15,7 +15,7 @@ use Rattle.c_grammar.specs.Spelling.{spell_all, spell_next, spell_listed, spell_
 use Rattle.c_grammar.specs.Grammar.{IsExpr, IsPlace, IsCallee, IsStatement, IsBody, IsObjectType}
 use Rattle.c_grammar.proofs.Spelled.{expr_follow}
 use Rattle.token_parsing.specs.Parser.{Parser, Outcome, and_then, one_of, begins, rest, again, repeat, either}
-use Rattle.token_parsing.proofs.Tracked.{Shrinks, Short, stops_short, short_then, Takes, Along, ended, last, longer, Tracked, too_deep, one_shrinks, pure_shrinks, then_shrinks, either_shrinks, repeat_shrinks, takes_token, takes_then, takes_either, along_some, along_split, same_begins, begun_short, short_tracked, other_text, track_first, track_second, track_then, track_token, track_pure, track_plain, track_left, Item, Listing, track_list}
+use Rattle.token_parsing.proofs.Tracked.{Shrinks, Short, relaxed, stops_short, short_then, Takes, Along, ended, last, longer, Tracked, too_deep, one_shrinks, pure_shrinks, then_shrinks, either_shrinks, repeat_shrinks, takes_token, takes_then, takes_either, along_some, along_split, same_begins, begun_short, short_tracked, other_text, track_first, track_second, track_then, track_token, track_pure, track_plain, track_left, Item, Listing, track_list}
 use Rattle.c_parser.specs.Classes.{same_word, same_mark, names, words, marks, unaries, expect}
 use Rattle.c_parser.specs.Types.{object_type}
 use Rattle.c_parser.specs.Expressions.{begins_selector, selectors, pointee, variable, base_place, place, opened, read_variable, read_pointee, expr_by, expr}
@@ -596,11 +596,11 @@ module _ (n : ℕ) (W : Type 0) (d : ℕ) (child : Parser Token Expr) (shrinks :
 star_taken : (d : ℕ) (r : List Token) → Short (suc (length r)) (expr_by (expr d) (Sign mark.Open ∷ Sign mark.Star ∷ r))
 unfolding expr_by opened read_pointee pointee one_of begins same_mark
 star_taken d r =
-    then_shrinks (then_shrinks (expr_shrinks d) (λ a. then_shrinks (one_shrinks _) (λ _. pure_shrinks _))) (λ p. then_shrinks (selectors_shrinks (expr d) (expr_shrinks d) p) (λ q. pure_shrinks (Read q))) (suc (length r)) r (omega arith)
+    relaxed (then_shrinks (then_shrinks (expr_shrinks d) (λ a. then_shrinks (one_shrinks _) (λ _. pure_shrinks _))) (λ p. then_shrinks (selectors_shrinks (expr d) (expr_shrinks d) p) (λ q. pure_shrinks (Read q))) (suc (length r)) r (omega arith))
 
 pub expr_taking : (d : ℕ) → Taking (expr d)
 unfolding expr expr_by read_variable variable begins same_mark
-expr_taking zero = record { name = λ name r. stops_short _; open_ = λ r. stops_short _; star = λ r. stops_short _ }
+expr_taking zero = record { name = λ name r. stops_short _ (omega arith); open_ = λ r. stops_short _ (omega arith); star = λ r. stops_short _ (omega arith) }
 expr_taking (suc d) = record {
   name = λ name r. short_then (begun_short names (Identifier name) r refl (λ _. pure_shrinks _)) (λ p. then_shrinks (selectors_shrinks (expr d) (expr_shrinks d) p) (λ q. pure_shrinks (Read q)));
   open_ = λ r. begun_short (marks mark.Open) (Sign mark.Open) r refl (λ _. opened_shrinks (expr d) (expr_shrinks d));

@@ -1,5 +1,5 @@
 -- A text of the grammar is followed: as long as the tokens are those of the text, none is refused.
-use Rattle.std.proofs.Common.{◌≡◌, ℕ, zero, suc, ◌<◌, ◌≤◌, Bool, true, false, List, [], ◌∷◌, ◌++◌, length, Option, Some, None, Result, Ok, Err, ◌⊎◌, inl, inr, refl, sym, ap, subst, ◌∙◌, append_assoc, arith}
+use Rattle.std.proofs.Common.{◌≡◌, ℕ, zero, suc, ◌+◌, ◌<◌, ◌≤◌, Bool, true, false, List, [], ◌∷◌, ◌++◌, length, Option, Some, None, Result, Ok, Err, ◌⊎◌, inl, inr, refl, sym, ap, subst, ◌∙◌, append_assoc, arith}
 use Rattle.std.specs.List.{AllByRecursion}
 use Rattle.std.proofs.lemmas.List.{append-nil}
 use Rattle.token_parsing.specs.declared.refusal.Refusal.TheVariants.{Unexpected, TooDeep}
@@ -7,21 +7,30 @@ use Rattle.token_parsing.specs.Parser.{Outcome, Parser, Class, and_then, take_of
 
 -- ---- no tokens are given back
 
--- fewer than n tokens are left
-pub data Short {T A : Type 0} (n : ℕ) : Outcome T A → Type 0 where
-  short : (a : A) (r : List T) → length r < n → Short n (Ok (a, r))
-  refuses_short : (k : ℕ) → k < n → Short n (Err (Unexpected k))
-  stops_short : (k : ℕ) → Short n (Err (TooDeep k))
+-- fewer than n tokens are left, and fewer than n + m where something is too deep
+pub data Shorter {T A : Type 0} (n m : ℕ) : Outcome T A → Type 0 where
+  short : (a : A) (r : List T) → length r < n → Shorter n m (Ok (a, r))
+  refuses_short : (k : ℕ) → k < n → Shorter n m (Err (Unexpected k))
+  stops_short : (k : ℕ) → k < n + m → Shorter n m (Err (TooDeep k))
+
+-- at a parser that takes one token or two, or stops before them
+abbrev pub Short : {T A : Type 0} → ℕ → Outcome T A → Type 0
+Short n o = Shorter n 2 o
 
 abbrev pub Shrinks : {T A : Type 0} → Parser T A → Type 0
-Shrinks {T} p = (n : ℕ) (s : List T) → length s < n → Short n (p s)
+Shrinks {T} p = (n : ℕ) (s : List T) → length s < n → Shorter n 0 (p s)
 
-pub short_then : {T A B : Type 0} {n : ℕ} {o : Outcome T A} {f : A → Parser T B} → Short n o → ((a : A) → Shrinks (f a)) → Short n (and_then o f)
-short_then (short a r h) k = k a _ r h
-short_then (refuses_short m h) k = refuses_short m h
-short_then (stops_short m) k = stops_short m
+pub relaxed : {T A : Type 0} {n m : ℕ} {o : Outcome T A} → Shorter n 0 o → Shorter n m o
+relaxed (short a r h) = short a r h
+relaxed (refuses_short k h) = refuses_short k h
+relaxed (stops_short k h) = stops_short k (omega arith)
 
-short_taken : {T A : Type 0} (found : Option A) (n : ℕ) (t : T) (s : List T) → length (t ∷ s) < n → Short n (take_of found (t ∷ s))
+pub short_then : {T A B : Type 0} {n m : ℕ} {o : Outcome T A} {f : A → Parser T B} → Shorter n m o → ((a : A) → Shrinks (f a)) → Shorter n m (and_then o f)
+short_then (short a r h) k = relaxed (k a _ r h)
+short_then (refuses_short i h) k = refuses_short i h
+short_then (stops_short i h) k = stops_short i h
+
+short_taken : {T A : Type 0} (found : Option A) (n : ℕ) (t : T) (s : List T) → length (t ∷ s) < n → Shorter n 0 (take_of found (t ∷ s))
 short_taken None n t s h = refuses_short (length (t ∷ s)) h
 short_taken (Some a) n t s h = short a s (omega arith)
 
@@ -40,12 +49,12 @@ pub refuse_shrinks : {T A : Type 0} → Shrinks {T = T} {A = A} (λ s. Err (Unex
 refuse_shrinks n s h = refuses_short (length s) h
 
 pub stop_shrinks : {T A : Type 0} → Shrinks {T = T} {A = A} (λ s. Err (TooDeep (length s)))
-stop_shrinks n s h = stops_short (length s)
+stop_shrinks n s h = stops_short (length s) (omega arith)
 
 pub either_shrinks : {T A : Type 0} (test : List T → Bool) {p q : Parser T A} → Shrinks p → Shrinks q → Shrinks (either test p q)
 either_shrinks test {p} {q} hp hq n s h = by (test s)
   where
-    by : (b : Bool) → Short n (elim b [ true ↦ p s | false ↦ q s ])
+    by : (b : Bool) → Shorter n 0 (elim b [ true ↦ p s | false ↦ q s ])
     by true = hp n s h
     by false = hq n s h
 
@@ -64,10 +73,10 @@ abbrev pub Takes : {T A : Type 0} → ℕ → Outcome T A → Type 0
 Takes n (Ok p) = length p.1 < n
 Takes n (Err e) = Unit {0}
 
-pub short_takes : {T A : Type 0} {n : ℕ} {o : Outcome T A} → Short n o → Takes n o
+pub short_takes : {T A : Type 0} {n m : ℕ} {o : Outcome T A} → Shorter n m o → Takes n o
 short_takes (short a r h) = h
 short_takes (refuses_short k h) = tt
-short_takes (stops_short k) = tt
+short_takes (stops_short k h) = tt
 
 pub takes_then : {T A B : Type 0} (n : ℕ) (o : Outcome T A) {f : A → Parser T B} → Takes n o → ((a : A) → Shrinks (f a)) → Takes n (and_then o f)
 takes_then n (Ok p) h k = short_takes (k p.0 n p.1 h)
@@ -126,10 +135,10 @@ pub data Tracked {T A : Type 0} (n : ℕ) (W : Type 0) (x : A) (rest : List T) :
   refuses_past : (k : ℕ) → k < n → Tracked n W x rest (Err (Unexpected k))
   too_deep : (k : ℕ) → (W → 0 < n) → Tracked n W x rest (Err (TooDeep k))
 
-pub short_tracked : {T A : Type 0} {n : ℕ} {W : Type 0} {x : A} {rest : List T} {o : Outcome T A} → 0 < n → Short n o → Tracked n W x rest o
+pub short_tracked : {T A : Type 0} {n m : ℕ} {W : Type 0} {x : A} {rest : List T} {o : Outcome T A} → 0 < n → Shorter n m o → Tracked n W x rest o
 short_tracked some (short a r h) = past a r h
 short_tracked some (refuses_short k h) = refuses_past k h
-short_tracked some (stops_short k) = too_deep k (λ w. some)
+short_tracked some (stops_short k h) = too_deep k (λ w. some)
 
 pub track_then : {T A B : Type 0} {n : ℕ} {W : Type 0} {x : A} {y : B} {rest rest' : List T} {o : Outcome T A} {f : A → Parser T B}
     → Tracked n W x rest o → ((a : A) → Shrinks (f a)) → ((r : List T) → Along n rest r → Tracked n W y rest' (f x r)) → Tracked n W y rest' (and_then o f)
@@ -164,7 +173,7 @@ track_pure x h = meets _ h
 
 begun : {T A B : Type 0} (found : Option A) (t : T) (r : List T) (f : A → Parser T B) → is_some found ≡ true → ((a : A) → Shrinks (f a)) → Short (suc (length r)) (and_then (take_of found (t ∷ r)) f)
 begun None t r f e k = absurd cc
-begun (Some a) t r f e k = k a (suc (length r)) r (omega arith)
+begun (Some a) t r f e k = relaxed (k a (suc (length r)) r (omega arith))
 
 -- the next token is one of the class, and so it is taken
 pub begun_short : {T A B : Type 0} (class : Class T A) (t : T) (r : List T) {f : A → Parser T B} → begins class (t ∷ r) ≡ true → ((a : A) → Shrinks (f a)) → Short (suc (length r)) (and_then (one_of class (t ∷ r)) f)
