@@ -1,1 +1,3 @@
+pub mod CellSteps
+pub mod CellTrees
 pub mod Symmetric

@@ -4,10 +4,14 @@
 //! relations hold of it with itself alone. None of these functions takes memory.
 #![tactic(auto)]
 
+mod cell_counts;
 pub mod laws;
 mod relations;
 
+pub use cell_counts::{MOST_CELLS, cells};
 pub use relations::{assignable, compatible, range, same};
 
+#[cfg(test)]
+mod cell_tests;
 #[cfg(test)]
 mod tests;

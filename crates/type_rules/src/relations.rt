@@ -9,7 +9,7 @@ use p2c_text::Dialect;
 use typed_tree::{Host, Packing, PasType, TypeId, Types};
 
 #[tactic(auto, unfolding(typed_tree::specs::Ranges::type_at))]
-fn type_at(types: &Types, t: TypeId) -> Option<&PasType>
+pub(crate) fn type_at(types: &Types, t: TypeId) -> Option<&PasType>
     ensures { option_copied result ≡ ranges.type_at types.now t }
 {
     types.list.get(t)
