@@ -1,6 +1,6 @@
 //! The command lines.
 
-ghost use Rattle.std.specs.Prelude.{◌≡◌, IfOk, true, map, option_map, codes};
+ghost use Rattle.std.specs.Prelude.{◌≡◌, IfOk, true, map, option_map, codes, string_bytes};
 ghost use Rattle.clap.specs.Words.{app_of, found_of, is_simple_and_free, kind_of, rows_of};
 ghost use Rattle.command_words.specs.Asked.{matched, run_app, sample_app, translate_app};
 
@@ -49,9 +49,9 @@ pub fn sample_line<'a>(alloc: Global) -> Result<Command<'a>, AllocError>
 /// What a command line makes of the words, where it takes them.
 pub fn matches<'a>(
     line: Command<'a>,
-    words: &'a [&'a str],
+    words: &'a [String],
 ) -> Result<Option<ArgMatches<'a>>, AllocError>
-    ensures { is_simple_and_free (app_of line.entry) ≡ true → IfOk result (λ found. option_map (λ m. rows_of (found_of m)) found ≡ matched (app_of line.entry) (map (λ word. word.now) words.now)) }
+    ensures { is_simple_and_free (app_of line.entry) ≡ true → IfOk result (λ found. option_map (λ m. rows_of (found_of m)) found ≡ matched (app_of line.entry) (map string_bytes words.now)) }
 {
     match line.try_get_matches_from(words) {
         Ok(found) => Ok(Some(found)),

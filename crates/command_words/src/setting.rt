@@ -1,6 +1,6 @@
 //! Settings, and how the matches of a command line give one.
 
-ghost use Rattle.std.specs.Prelude.{◌≡◌, IfOk, map, option_map, option_and_then, codes};
+ghost use Rattle.std.specs.Prelude.{◌≡◌, IfOk, map, option_map, option_and_then, codes, string_bytes};
 ghost use Rattle.clap.specs.Words.{all_of, first_of, found_of, rows_of};
 ghost use Rattle.command_words.specs.Asked as spec;
 ghost use Rattle.command_words.specs.Asked.{asked, dialect_of, matched, number_in, run_app, running, sample_app, sampling, seen, translate_app, translation};
@@ -30,27 +30,28 @@ pub enum Setting<'a> {
 /// What the words after the program's name ask for, or `None` where they ask for nothing.
 pub fn parse_words<'a>(
     alloc: Global,
-    words: &'a [&'a str],
+    words: &'a [String],
 ) -> Result<Option<Setting<'a>>, AllocError>
-    ensures { IfOk result (λ found. option_map seen found ≡ asked (map (λ word. word.now) words.now)) }
+    ensures { IfOk result (λ found. option_map seen found ≡ asked (map string_bytes words.now)) }
 {
     let Some(command) = words.first() else {
         return Ok(None);
     };
-    if *command == "translate" {
+    let command = command.as_str();
+    if command == "translate" {
         return translate(alloc, words);
     }
-    if *command == "run" {
+    if command == "run" {
         return run(alloc, words);
     }
-    if *command == "sample" {
+    if command == "sample" {
         return sample(alloc, words);
     }
     Ok(None)
 }
 
-fn translate<'a>(alloc: Global, words: &'a [&'a str]) -> Result<Option<Setting<'a>>, AllocError>
-    ensures { IfOk result (λ found. option_map seen found ≡ option_and_then translation (matched translate_app (map (λ word. word.now) words.now))) }
+fn translate<'a>(alloc: Global, words: &'a [String]) -> Result<Option<Setting<'a>>, AllocError>
+    ensures { IfOk result (λ found. option_map seen found ≡ option_and_then translation (matched translate_app (map string_bytes words.now))) }
 {
     match matches(translate_line(alloc)?, words)? {
         Some(found) => translation(alloc, &found),
@@ -58,8 +59,8 @@ fn translate<'a>(alloc: Global, words: &'a [&'a str]) -> Result<Option<Setting<'
     }
 }
 
-fn run<'a>(alloc: Global, words: &'a [&'a str]) -> Result<Option<Setting<'a>>, AllocError>
-    ensures { IfOk result (λ found. option_map seen found ≡ option_and_then running (matched run_app (map (λ word. word.now) words.now))) }
+fn run<'a>(alloc: Global, words: &'a [String]) -> Result<Option<Setting<'a>>, AllocError>
+    ensures { IfOk result (λ found. option_map seen found ≡ option_and_then running (matched run_app (map string_bytes words.now))) }
 {
     match matches(run_line(alloc)?, words)? {
         Some(found) => Ok(running(&found)),
@@ -67,8 +68,8 @@ fn run<'a>(alloc: Global, words: &'a [&'a str]) -> Result<Option<Setting<'a>>, A
     }
 }
 
-fn sample<'a>(alloc: Global, words: &'a [&'a str]) -> Result<Option<Setting<'a>>, AllocError>
-    ensures { IfOk result (λ found. option_map seen found ≡ option_and_then sampling (matched sample_app (map (λ word. word.now) words.now))) }
+fn sample<'a>(alloc: Global, words: &'a [String]) -> Result<Option<Setting<'a>>, AllocError>
+    ensures { IfOk result (λ found. option_map seen found ≡ option_and_then sampling (matched sample_app (map string_bytes words.now))) }
 {
     match matches(sample_line(alloc)?, words)? {
         Some(found) => Ok(sampling(&found)),

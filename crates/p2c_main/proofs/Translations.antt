@@ -1,7 +1,6 @@
 -- What is made of a source is its translation.
-use Rattle.std.proofs.Common.{◌≡◌, ℕ, ◌≤◌, List, [], length, Option, Some, None, ◌⊎◌, inl, inr, Bor, refl, subst, ◌∙◌, ap, arith}
+use Rattle.std.proofs.Common.{◌≡◌, ℕ, ◌≤◌, List, [], length, Option, Some, None, ◌⊎◌, inl, inr, refl, subst, ◌∙◌, ap, arith}
 use Rattle.std.specs.Prelude.{unwrap_or, Result, Ok, Err, OnOk, OnErr}
-use Rattle.std.specs.Option.{option_copied}
 use Rattle.std.specs.List.{AllByRecursion}
 use Rattle.p2c_text.specs.declared.dialect.Dialect.TheVariants.{Iso}
 use Rattle.p2c_outside.specs.Counts.{Rose}
@@ -108,11 +107,6 @@ completed told words TooLong read write a r w usage missing rf wf long unbuilt =
 completed told words Unbuilt read write a r w usage missing rf wf long unbuilt = absurd (not_refused told words a (unbuilt refl))
 
 -- ---- the line on standard error
-
--- the name that is asked for, or nothing
-pub name_or : (asked : Option (Bor (List ℕ))) (other : Bor (List ℕ)) → other.now ≡ [] → (unwrap_or asked other).now ≡ unwrap_or (option_copied asked) []
-name_or None other empty = empty
-name_or (Some name) other empty = refl
 
 pub says : {E : Type 0} (old new : Option (List ℕ)) (faults faults_now : ℕ) (text : List ℕ) (result : Result (Unit {0}) E)
     → OnOk result (Gains old new text) → OnErr result (GainsPart old new text) → OnErr result (Rose faults faults_now) → Says old new faults faults_now text

@@ -1,19 +1,16 @@
 -- What the words after the program's name ask for.
-use Rattle.std.specs.Prelude.{ℕ, Bool, false, if◌then◌else◌, ◌==◌, ◌&&◌, not, Option, None, Some, List, [], ◌∷◌, codes, unwrap_or}
-use Rattle.std.specs.Str.{bytes_eq}
+use Rattle.std.specs.Prelude.{ℕ, Option, None, Some, List, [], ◌∷◌, unwrap_or, option_and_then}
+use Rattle.p2c_text.specs.declared.dialect.Dialect.TheVariants.{Iso}
+use Rattle.command_words.specs.Asked.{Asked, Translate, asked}
 
-abbrev pub begins_with_minus : List ℕ → Bool
-begins_with_minus [] = false
-begins_with_minus (first ∷ rest) = first == 45
+-- one program of ISO is asked for; nothing else is built
+abbrev pub file_of : Asked → Option (List ℕ)
+file_of (Translate Iso (name ∷ [])) = Some name
+file_of _ = None
 
 -- the words ask to translate the file of this name
-abbrev pub is_translation : List ℕ → List ℕ → Bool
-is_translation command name = bytes_eq command (codes "translate") && not (begins_with_minus name)
-
--- the file that the words ask to translate; no other words ask for anything
 abbrev pub file_asked : List (List ℕ) → Option (List ℕ)
-file_asked (command ∷ name ∷ []) = if is_translation command name then Some name else None
-file_asked _ = None
+file_asked words = option_and_then file_of (asked words)
 
 -- the name of that file, or nothing
 abbrev pub name_asked : List (List ℕ) → List ℕ

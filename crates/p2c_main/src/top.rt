@@ -13,7 +13,7 @@ use crate::lower::writer;
 use crate::message::report;
 use crate::outcome::Outcome;
 use crate::reading::{LONGEST_SOURCE, ReadRefusal, read_whole};
-use crate::words::{Words, asked_file};
+use crate::words::{Words, asked_file, name_or_nothing};
 use crate::writing::offer;
 use literal_writers::written_by;
 use p2c_outside::{Files, Sink, Source};
@@ -30,7 +30,8 @@ pub fn p2c<F: Files, I: Source, O: Sink, E: Sink>(
     err: &mut E,
 ) -> u8
     // the causes of each answer
-    ensures usage { (result ≡ 240) ↔ (file_asked words.now ≡ None) }
+    ensures usage { result ≡ 240 → file_asked words.now ≡ None }
+    ensures asked { file_asked words.now ≡ None → (result ≡ 240) ⊎ (result ≡ 245) }
     ensures missing { result ≡ 242 → Rose (F.missing files.old) (F.missing files.new) }
     ensures absent { result ≡ 242 → Lacks (F.told files.old) (name_asked words.now) }
     ensures read_fault { result ≡ 243 → Rose (F.faults files.old) (F.faults files.new) }
@@ -63,12 +64,13 @@ pub fn p2c<F: Files, I: Source, O: Sink, E: Sink>(
     ensures message { Reports result words.now
         (E.written err.old) (E.written err.new) (E.faults err.old) (E.faults err.new) }
 {
-    let asked = asked_file(words);
+    let asked = asked_file(alloc, words);
     let outcome = match asked {
-        Some(name) => translate(alloc, files, name, out),
-        None => Outcome::Usage,
+        Ok(Some(name)) => translate(alloc, files, name, out),
+        Ok(None) => Outcome::Usage,
+        Err(AllocError) => Outcome::OutOfMemory,
     };
-    let _ = report(err, outcome, asked.unwrap_or(""));
+    let _ = report(err, outcome, name_or_nothing(&asked));
     outcome.status()
 }
 

@@ -1,9 +1,13 @@
 //! The words after the program's name.
 
-ghost use Rattle.std.specs.Prelude.{◌≡◌};
+ghost use Rattle.std.specs.Prelude.{◌≡◌, IfOk, [], unwrap_or};
 ghost use Rattle.std.specs.Option.{option_copied};
-ghost use Rattle.p2c_main.specs.Words.{begins_with_minus, file_asked, is_translation};
+ghost use Rattle.command_words.specs.Asked.{seen};
+ghost use Rattle.p2c_main.specs.Words.{file_asked, file_of};
 
+use command_words::{Setting, parse_words};
+use p2c_text::Dialect;
+use std::alloc::{AllocError, Global};
 use std::marker::Model;
 
 /// The words after the program's name, in order.
@@ -20,24 +24,37 @@ impl Model for Words {
     ghost view = { λ words. map string_bytes words.list.items };
 }
 
-/// The name of the file that the words ask to translate.
-pub fn asked_file(words: &Words) -> Option<&str>
-    ensures { option_copied result ≡ file_asked words.now }
+/// The name of the file that the words ask to translate, as one program of ISO.
+pub fn asked_file(alloc: Global, words: &Words) -> Result<Option<&str>, AllocError>
+    ensures { IfOk result (λ name. option_copied name ≡ file_asked words.now) }
 {
-    match words.list.as_slice() {
-        [command, name] if is_translation(command.as_str(), name.as_str()) => Some(name.as_str()),
-        _ => None,
+    match parse_words(alloc, words.list.as_slice())? {
+        Some(setting) => Ok(only_file(&setting)),
+        None => Ok(None),
     }
 }
 
-fn is_translation(command: &str, name: &str) -> bool
-    ensures { result ≡ is_translation command.now name.now }
+/// The name that was asked for, or nothing.
+pub fn name_or_nothing<'a>(asked: &Result<Option<&'a str>, AllocError>) -> &'a str
+    ensures { IfOk asked.now (λ name. result.now ≡ unwrap_or (option_copied name) []) }
 {
-    command == "translate" && !begins_with_minus(name.as_bytes())
+    match asked {
+        Ok(Some(name)) => name,
+        _ => "",
+    }
 }
 
-fn begins_with_minus(word: &[u8]) -> bool
-    ensures { result ≡ begins_with_minus word.now }
+fn only_file<'a>(setting: &Setting<'a>) -> Option<&'a str>
+    ensures { option_copied result ≡ file_of (seen setting.now) }
 {
-    matches!(word, [b'-', ..])
+    match setting {
+        Setting::Translate {
+            dialect: Dialect::Iso,
+            files,
+        } => match files.as_slice() {
+            [name] => Some(*name),
+            _ => None,
+        },
+        _ => None,
+    }
 }
