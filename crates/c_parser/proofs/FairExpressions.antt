@@ -1,5 +1,5 @@
 -- Expressions that are read.
-use Rattle.std.proofs.Common.{◌≡◌, ℕ, zero, suc, ◌+◌, ◌≤◌, max, Bool, true, false, List, [], ◌∷◌, ◌++◌, length, Option, Some, None, Ok, refl, sym, ap, subst, ◌∙◌, arith}
+use Rattle.std.proofs.Common.{◌≡◌, ℕ, zero, suc, ◌+◌, ◌≤◌, List, [], ◌∷◌, Ok, refl, ap, subst, ◌∙◌, arith}
 use Rattle.c_tree.specs.Tree.{Expr, Read, Number, WordNumber, Null, Address, Unary, Binary, Cast, Place, Variable, Pointee, Member, Index}
 use Rattle.c_tree.specs.declared.operators.CUnary.{CUnary}
 use Rattle.c_tree.specs.declared.operators.CUnary.TheVariants as unary_
@@ -9,20 +9,19 @@ use Rattle.c_tree.specs.declared.operators.CCast.{CCast}
 use Rattle.c_tree.specs.declared.operators.CCast.TheVariants as cast_
 use Rattle.c_grammar.specs.declared.token.Word.TheVariants as word
 use Rattle.c_grammar.specs.declared.token.Mark.TheVariants as mark
-use Rattle.c_grammar.specs.Token.{Token, Identifier, Numeral, Quoted, Sign}
+use Rattle.c_grammar.specs.Token.{Token, Identifier, Numeral, Sign}
 use Rattle.c_grammar.specs.Spelling.{count, spell_cast, spell_expr, spell_place, unary_mark, binary_mark}
-use Rattle.c_grammar.specs.Grammar.{IsName, IsNumber, IsWordNumber, IsCast, IsExpr, IsPlace}
+use Rattle.c_grammar.specs.Grammar.{IsNumber, IsWordNumber, IsCast, IsExpr, IsPlace}
 use Rattle.c_grammar.specs.Seen.{AreTokens}
-use Rattle.c_grammar.specs.Demands.{Demands, Level, after, cast_demands, expr_demands, place_demands}
-use Rattle.c_grammar.specs.Text.{Begins, MayBegin}
+use Rattle.c_grammar.specs.Text.{MayBegin}
 use Rattle.c_grammar.proofs.Spelled.{count_more, cast_follow, expr_follow, place_follow}
-use Rattle.token_parsing.specs.Parser.{Parser, and_then, one_of, begins, rest}
-use Rattle.token_parsing.proofs.Fair.{Fair, At, reads, at_token, fair_then, fair_either, fair_repeat, fair_token, fair_spelled, fair_stop}
-use Rattle.c_parser.specs.Classes.{names, numbers, marks, words, unaries, binaries, cast_words, expect}
+use Rattle.token_parsing.specs.Parser.{Parser, and_then, begins}
+use Rattle.token_parsing.proofs.Fair.{At, reads, at_token, fair_then, fair_either, fair_repeat, fair_token, fair_spelled, fair_stop}
+use Rattle.c_parser.specs.Classes.{names, numbers, marks, words, unaries, binaries}
 use Rattle.c_parser.specs.Expressions.{largest_int, largest_word, number, word_number, null, begins_selector, member, element, selected, selectors, pointee, variable, base_place, place, read_pointee, address, unary, binary, cast, begins_cast, opened, read_variable, expr_by, expr}
 use Rattle.c_parser.specs.Depth.{expr_depth, place_depth}
 use Rattle.c_parser.proofs.FairTokens.{FairC, mark_fair, word_fair, name_fair, number_is, number_most, unary_is, binary_is, a_name, a_name_is}
-use Rattle.c_parser.proofs.Holes.{Law, Filled, begins_by, inner, in_first, in_second, in_later, in_after, ExprHas, PlaceHas, ExprHole, PlaceHole, CastHole, read_hole, may_begin}
+use Rattle.c_parser.proofs.Holes.{Law, begins_by, inner, in_first, in_second, in_later, in_after, ExprHole, PlaceHole, CastHole, read_hole, may_begin}
 use Rattle.c_parser.proofs.FairTypes.{cast_type_fair}
 
 -- ---- what is read

@@ -1,13 +1,11 @@
 -- Declarations and programs that are read.
-use Rattle.std.proofs.Common.{◌≡◌, ◌≢◌, ℕ, zero, suc, ◌+◌, ◌≤◌, Bool, true, false, List, [], ◌∷◌, ◌++◌, length, Option, Some, None, Ok, refl, sym, ap, subst, ◌∙◌, arith}
+use Rattle.std.proofs.Common.{◌≡◌, ◌≢◌, ℕ, ◌+◌, ◌≤◌, List, [], ◌∷◌, ◌++◌, Option, Some, None, Ok, refl, sym, ap, subst, ◌∙◌, arith}
 use Rattle.std.specs.List.{AllByRecursion}
 use Rattle.std.specs.Option.{IfSome}
 use Rattle.std.proofs.lemmas.List.{append-nil}
-use Rattle.c_tree.specs.Tree.{ObjectType, Int, Struct, Statement, Body, body_of, list_of, body_of-list_of}
+use Rattle.c_tree.specs.Tree.{ObjectType, Struct, Statement, body_of, list_of, body_of-list_of}
 use Rattle.c_tree.specs.declared.program.CVariable.{CVariable}
 use Rattle.c_tree.specs.declared.program.CMember.{CMember}
-use Rattle.c_tree.specs.declared.program.CStruct.{CStruct}
-use Rattle.c_tree.specs.declared.program.CTypedef.{CTypedef}
 use Rattle.c_tree.specs.declared.program.CDeclaration.TheVariants as declared
 use Rattle.c_tree.specs.declared.program.CFunction.{CFunction}
 use Rattle.c_tree.specs.declared.program.CMain.{CMain}
@@ -15,29 +13,29 @@ use Rattle.c_tree.specs.declared.program.CProgram.{CProgram}
 use Rattle.c_grammar.specs.declared.token.Word.TheVariants as word
 use Rattle.c_grammar.specs.declared.token.Mark.TheVariants as mark
 use Rattle.c_grammar.specs.Token.{Token, Identifier, Numeral, Quoted, Sign}
-use Rattle.c_grammar.specs.Spelling.{Spelling, count, spell_all, spell_next, spell_listed, spell_or_void, spell_type, spell_result, spell_body, spell_variable, spell_variable_line, spell_length, spell_member, spell_forward, spell_struct, spell_typedef, spell_declaration, spell_parameters, spell_prototype, spell_block, spell_function, spell_main, program_tokens}
-use Rattle.c_grammar.specs.Grammar.{IsName, IsNumber, IsObjectType, IsBody, IsVariable, IsMember, IsStruct, IsTypedef, IsDeclaration, IsPrototype, IsFunction, IsMain, IsProgram}
+use Rattle.c_grammar.specs.Spelling.{Spelling, count, spell_all, spell_next, spell_listed, spell_or_void, spell_type, spell_result, spell_body, spell_variable, spell_variable_line, spell_length, spell_member, spell_typedef, spell_parameters, spell_block, spell_function, spell_main, program_tokens}
+use Rattle.c_grammar.specs.Grammar.{IsName, IsNumber, IsObjectType, IsBody, IsVariable, IsMember, IsTypedef, IsDeclaration, IsPrototype, IsFunction, IsMain, IsProgram}
 use Rattle.c_grammar.specs.Seen.{AreTokens}
 use Rattle.c_grammar.specs.Types.{Known}
-use Rattle.c_grammar.specs.Demands.{Names, Demands, and_variables, own_labels, block_demands, body_demands}
-use Rattle.c_grammar.specs.Text.{Begins, MayBegin}
-use Rattle.c_grammar.proofs.Spelled.{Follow, count_more, all_follow, type_follow}
-use Rattle.c_grammar.proofs.SpelledProgram.{or_void_follow, result_follow, variable_follow, line_follow}
-use Rattle.token_parsing.specs.Parser.{Parser, and_then, one_of, begins, rest, repeat}
-use Rattle.token_parsing.proofs.Fair.{Fair, At, reads, at_first, at_token, at_same, fair_then, fair_either, fair_repeat, fair_so, fair_token, fair_spelled, fair_refuse, fair_stop}
+use Rattle.c_grammar.specs.Demands.{Names, and_variables, own_labels, block_demands, body_demands}
+use Rattle.c_grammar.specs.Text.{Begins}
+use Rattle.c_grammar.proofs.Spelled.{count_more}
+use Rattle.c_grammar.proofs.SpelledProgram.{or_void_follow, result_follow, variable_follow}
+use Rattle.token_parsing.specs.Parser.{Parser, and_then, begins, repeat}
+use Rattle.token_parsing.proofs.Fair.{At, reads, at_first, at_token, at_same, fair_then, fair_either, fair_repeat, fair_so, fair_token, fair_refuse}
 use Rattle.c_parser.specs.declared.program.Parts.{Parts}
-use Rattle.c_parser.specs.Classes.{names, numbers, marks, words, expect}
-use Rattle.c_parser.specs.Types.{object_type, result_type, stars}
+use Rattle.c_parser.specs.Classes.{numbers, marks, words, expect}
+use Rattle.c_parser.specs.Types.{object_type}
 use Rattle.c_parser.specs.Expressions.{largest_int, expr}
-use Rattle.c_parser.specs.Statements.{no_brace, statements, statement}
-use Rattle.c_parser.specs.Programs.{variable_of, variable, array_length, member_of, member, next_member, members, next_type, types_after, types, typedef_of, pointer_name, typedef, next_parameter, parameters_after, parameters, begins_local, next_local, locals, block, no_functions, no_prototypes, no_globals, no_declarations, with_forward, with_declaration, with_global, with_prototype, with_function, when, forward, struct_of, structure, type_definition, global, prototype_of, prototype, function_of, function, after_parameters, after_name, after_result, after_struct_name, after_struct, next_part, no_int, no_parts, parts, main_of, main, program_of, end_of, program}
+use Rattle.c_parser.specs.Statements.{no_brace, statement}
+use Rattle.c_parser.specs.Programs.{variable_of, variable, array_length, member_of, member, next_member, members, next_type, types_after, types, typedef_of, pointer_name, typedef, next_parameter, parameters_after, parameters, begins_local, next_local, locals, block, no_functions, no_prototypes, no_globals, no_declarations, with_forward, with_declaration, with_global, with_prototype, with_function, forward, struct_of, structure, type_definition, global, prototype_of, prototype, function_of, function, after_parameters, after_name, after_result, after_struct_name, after_struct, next_part, no_int, no_parts, parts, main_of, main, program_of, end_of, program}
 use Rattle.c_parser.specs.Depth.{body_depth, Fits}
 use Rattle.c_parser.proofs.FairTokens.{FairC, mark_fair, word_fair, name_fair, number_is, number_most, a_name, a_name_is}
 use Rattle.c_parser.proofs.FairTypes.{type_fair, stars_fair, result_fair}
 use Rattle.c_parser.proofs.FairExpressions.{expr_fair}
 use Rattle.c_parser.proofs.FairStatements.{BodyHole, statements_fair, statement_fair}
-use Rattle.c_parser.proofs.Holes.{Law, Among, Filled, begins_by, inner, in_first, in_second, in_later, in_after, NoLevel, TypeHole, ResultHole}
-use Rattle.c_parser.proofs.PartsHoles.{spell_parts, AreParts, forward_pushed, declaration_pushed, global_pushed, prototype_pushed, function_pushed, empty_main, FunctionHas, filled_function, MainHas, filled_main, filled_forward, filled_declaration, filled_global, filled_prototype}
+use Rattle.c_parser.proofs.Holes.{Law, Among, Filled, begins_by, inner, in_second, in_after, NoLevel, ResultHole}
+use Rattle.c_parser.proofs.PartsHoles.{spell_parts, AreParts, forward_pushed, declaration_pushed, global_pushed, prototype_pushed, function_pushed, empty_main, FunctionHas, filled_function, filled_main, filled_declaration}
 use Rattle.c_parser.proofs.Pushed.{all_pushed, each_pushed}
 
 -- ---- holes without levels

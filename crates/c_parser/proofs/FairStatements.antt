@@ -1,31 +1,31 @@
 -- Statements that are read.
-use Rattle.std.proofs.Common.{◌≡◌, ℕ, zero, suc, ◌+◌, ◌≤◌, max, Bool, true, false, List, [], ◌∷◌, ◌++◌, length, Option, Some, None, Ok, refl, sym, ap, subst, ◌∙◌, arith}
+use Rattle.std.proofs.Common.{◌≡◌, ℕ, zero, suc, ◌+◌, ◌≤◌, List, [], ◌∷◌, ◌++◌, length, Option, Some, None, refl, sym, ap, subst, ◌∙◌, arith}
 use Rattle.std.specs.List.{AllByRecursion}
 use Rattle.std.specs.Option.{IfSome}
-use Rattle.c_tree.specs.Tree.{ObjectType, Int, Expr, Null, Place, Variable, Pointee, Member, Index, Statement, Assign, Call, Malloc, Free, GetChar, PutChar, If, IfElse, While, Goto, Label, Return, Body, Empty, Then, body_of}
+use Rattle.c_tree.specs.Tree.{Int, Expr, Null, Place, Variable, Pointee, Member, Index, Statement, Assign, Call, Malloc, Free, GetChar, PutChar, If, IfElse, While, Goto, Label, Return, Body, Empty, body_of}
 use Rattle.c_tree.specs.declared.statement.CCallee.{CCallee}
 use Rattle.c_tree.specs.declared.statement.CCallee.TheVariants.{Direct, Indirect}
 use Rattle.c_grammar.specs.declared.token.Word.{Word as QuotedWord}
 use Rattle.c_grammar.specs.declared.token.Word.TheVariants as word
 use Rattle.c_grammar.specs.declared.token.Mark.TheVariants as mark
-use Rattle.c_grammar.specs.Token.{Token, Identifier, Numeral, Quoted, Sign}
+use Rattle.c_grammar.specs.Token.{Token, Identifier, Quoted, Sign}
 use Rattle.c_grammar.specs.Spelling.{count, spell_all, spell_next, spell_listed, spell_expr, spell_place, spell_into, spell_callee, spell_value, spell_statement, spell_body, spell_type}
-use Rattle.c_grammar.specs.Grammar.{IsName, IsExpr, IsPlace, IsCallee, IsStatement, IsBody, IsObjectType}
+use Rattle.c_grammar.specs.Grammar.{IsExpr, IsPlace, IsCallee, IsStatement, IsBody}
 use Rattle.c_grammar.specs.Seen.{AreTokens}
 use Rattle.c_grammar.specs.Types.{Known}
-use Rattle.c_grammar.specs.Demands.{Demands, Names, Level, after, same, expr_demands, callee_demands, statement_demands, body_demands, all_demands, listed_demands, own_labels, labels_of, program_demands}
+use Rattle.c_grammar.specs.Demands.{Names, after, same, expr_demands, callee_demands, statement_demands, body_demands, listed_demands, own_labels, labels_of, program_demands}
 use Rattle.c_grammar.specs.Text.{Begins, MayBegin}
-use Rattle.c_grammar.proofs.Spelled.{count_more, next_follow, listed_follow, all_follow, expr_follow, place_follow, into_follow, callee_follow, body_follow}
-use Rattle.token_parsing.specs.Parser.{Parser, and_then, one_of, begins, rest}
-use Rattle.token_parsing.proofs.Fair.{Fair, At, reads, at_token, at_same, fair_then, fair_either, fair_repeat, fair_so, fair_token, fair_spelled, fair_refuse, fair_stop}
-use Rattle.c_parser.specs.Classes.{names, marks, words, expect}
-use Rattle.c_parser.specs.Expressions.{place, expr}
+use Rattle.c_grammar.proofs.Spelled.{count_more, next_follow, all_follow, expr_follow, place_follow, into_follow, callee_follow, body_follow}
+use Rattle.token_parsing.specs.Parser.{Parser, begins}
+use Rattle.token_parsing.proofs.Fair.{At, reads, at_same, fair_then, fair_either, fair_repeat, fair_so, fair_refuse, fair_stop}
+use Rattle.c_parser.specs.Classes.{names, marks, words}
+use Rattle.c_parser.specs.Expressions.{expr}
 use Rattle.c_parser.specs.Statements.{next_argument, some_arguments, listed_arguments, call, indirect, callee, calls, malloc_opening, malloc, get_char, value, call_into, assigned, callee_of, label_of, called, labelled, placed, free, put_char, goto, returned, return_with, no_brace, next_statement, statements, body, test, otherwise, conditional, while_loop, simple, statement_by, statement}
 use Rattle.c_parser.specs.Depth.{expr_depth, place_depth, into_depth, callee_depth, arguments_depth, value_depth, statement_depth, body_depth}
 use Rattle.c_parser.proofs.FairTokens.{FairC, mark_fair, word_fair, name_fair, a_name, a_name_is}
 use Rattle.c_parser.proofs.FairTypes.{type_fair}
-use Rattle.c_parser.proofs.FairExpressions.{ReadExpr, ReadPlace, ExprFair, place_fair, expr_fair}
-use Rattle.c_parser.proofs.Holes.{Law, Among, Filled, begins_by, inner, in_first, in_second, in_later, in_after, level_here, ExprHas, PlaceHas, ExprHole, PlaceHole, TypeHole}
+use Rattle.c_parser.proofs.FairExpressions.{ReadPlace, ExprFair, place_fair, expr_fair}
+use Rattle.c_parser.proofs.Holes.{Law, Among, Filled, begins_by, inner, in_first, in_second, in_later, in_after, level_here, ExprHole, PlaceHole, TypeHole}
 use Rattle.c_parser.proofs.Pushed.{all_pushed, each_pushed, body_pushed, is_body_pushed, body_depth_pushed, arguments_depth_pushed, all_last, body_last}
 
 -- ---- holes

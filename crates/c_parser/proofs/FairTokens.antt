@@ -1,7 +1,6 @@
 -- Tokens that are read: what they are, and that what is before them begins a text.
-use Rattle.std.proofs.Common.{◌≡◌, ℕ, ◌≤◌, Bool, true, false, List, [], ◌∷◌, ◌++◌, length, Option, Some, None, refl, sym, ap, subst, ◌∙◌, rules}
+use Rattle.std.proofs.Common.{◌≡◌, ℕ, ◌≤◌, Bool, true, false, List, [], ◌∷◌, ◌++◌, Some, refl, ap, subst, ◌∙◌, rules}
 use Rattle.std.specs.Prelude.{nat_le}
-use Rattle.std.specs.List.{AllByRecursion}
 use Rattle.std.proofs.lemmas.Bool.{leb-true}
 use denote.Enum.Bare.{same_true}
 use Rattle.c_grammar.specs.contracts.token.Word as the_words
@@ -18,7 +17,7 @@ use Rattle.c_grammar.specs.Spelling.{unary_mark, binary_mark}
 use Rattle.c_grammar.specs.Grammar.{IsName}
 use Rattle.c_grammar.specs.Seen.{IsToken, AreTokens}
 use Rattle.c_grammar.specs.Text.{Begins, MayBegin}
-use Rattle.token_parsing.specs.Parser.{Parser, Outcome, Class, and_then, one_of}
+use Rattle.token_parsing.specs.Parser.{Parser, Outcome, and_then, one_of}
 use Rattle.token_parsing.proofs.Fair.{Fair, At, fair_spelled}
 use Rattle.c_parser.specs.Classes.{same_word, same_mark, if_true, names, numbers, words, marks, expect, expect_word, unary_of, binary_of, unaries, binaries}
 

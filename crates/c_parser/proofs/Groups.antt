@@ -1,5 +1,5 @@
 -- One token of a group of parentheses is skipped.
-use Rattle.std.proofs.Common.{◌≡◌, ℕ, zero, suc, ◌+◌, ◌-◌, ◌<◌, Bool, true, false, List, [], ◌∷◌, length, refl, sym, ap, ◌∙◌, arith}
+use Rattle.std.proofs.Common.{◌≡◌, ℕ, zero, suc, ◌+◌, ◌-◌, ◌<◌, Bool, true, false, List, [], ◌∷◌, length, refl, ap, ◌∙◌, arith}
 use Rattle.c_grammar.specs.declared.token.CToken.{CToken}
 use Rattle.c_grammar.specs.declared.token.Mark.TheVariants as mark
 use Rattle.c_grammar.specs.Token.{Token}

@@ -1,5 +1,5 @@
 -- Places in texts where any tree of some kind may stand, with what it demands of levels.
-use Rattle.std.proofs.Common.{◌≡◌, ℕ, zero, suc, ◌+◌, ◌<◌, List, [], ◌∷◌, ◌++◌, length, Option, refl, sym, ap, subst, ◌∙◌, arith, length-append}
+use Rattle.std.proofs.Common.{◌≡◌, ℕ, zero, suc, ◌+◌, List, [], ◌∷◌, ◌++◌, length, Option, refl, ap, subst, ◌∙◌, arith, length-append}
 use Rattle.std.specs.List.{Contains}
 use Rattle.std.proofs.lemmas.List.Elements.{Contains-append_left, Contains-append_right}
 use Rattle.std.specs.Option.{IfSome}
@@ -11,7 +11,7 @@ use Rattle.c_grammar.specs.Spelling.{spell_type, spell_result, spell_cast, spell
 use Rattle.c_grammar.specs.Grammar.{IsObjectType, IsCast, IsExpr, IsPlace, IsProgram}
 use Rattle.c_grammar.specs.Types.{Known}
 use Rattle.c_grammar.specs.Demands.{Demand, Demands, Level, after, expr_demands, place_demands, program_demands}
-use Rattle.c_grammar.specs.Text.{Begins, MayBegin, Spells}
+use Rattle.c_grammar.specs.Text.{Begins, MayBegin}
 use Rattle.token_parsing.proofs.Fair.{At}
 
 -- ---- where a level stands among demands

@@ -1,24 +1,20 @@
 -- Places in a program after some of its parts.
-use Rattle.std.proofs.Common.{◌≡◌, ℕ, suc, ◌+◌, ◌≤◌, Bool, true, false, List, [], ◌∷◌, ◌++◌, length, Option, Some, None, refl, sym, ap, subst, ◌∙◌, arith}
+use Rattle.std.proofs.Common.{◌≡◌, ℕ, ◌+◌, Bool, true, false, List, [], ◌∷◌, length, refl, sym, ap, subst, ◌∙◌, arith}
 use Rattle.std.specs.List.{AllByRecursion}
-use Rattle.c_tree.specs.Tree.{Statement, body_of}
 use Rattle.c_tree.specs.declared.program.CVariable.{CVariable}
-use Rattle.c_tree.specs.declared.program.CStruct.{CStruct}
 use Rattle.c_tree.specs.declared.program.CDeclaration.{CDeclaration}
 use Rattle.c_tree.specs.declared.program.CPrototype.{CPrototype}
 use Rattle.c_tree.specs.declared.program.CFunction.{CFunction}
 use Rattle.c_tree.specs.declared.program.CMain.{CMain}
-use Rattle.c_tree.specs.declared.program.CProgram.{CProgram}
 use Rattle.c_grammar.specs.Token.{Token}
-use Rattle.c_grammar.specs.Spelling.{Spelling, count, spell_all, spell_forward, spell_declaration, spell_variable_line, spell_prototype, spell_function, spell_main, program_tokens}
-use Rattle.c_grammar.specs.Grammar.{IsName, IsVariable, IsDeclaration, IsPrototype, IsFunction, IsMain, IsProgram}
+use Rattle.c_grammar.specs.Spelling.{Spelling, count, spell_all, spell_forward, spell_declaration, spell_variable_line, spell_prototype, spell_function, spell_main}
+use Rattle.c_grammar.specs.Grammar.{IsName, IsVariable, IsDeclaration, IsPrototype, IsFunction, IsMain}
 use Rattle.c_grammar.specs.Types.{Known}
-use Rattle.c_grammar.specs.Demands.{Names, Demands, and_function, function_demands, main_demands, program_demands}
+use Rattle.c_grammar.specs.Demands.{Names, Demands, and_function, function_demands, main_demands}
 use Rattle.c_grammar.proofs.Spelled.{count_more, all_follow}
 use Rattle.c_grammar.proofs.SpelledProgram.{forward_follow, declaration_follow, line_follow, prototype_follow, function_follow}
 use Rattle.c_parser.specs.declared.program.Parts.{Parts}
 use Rattle.c_parser.specs.Programs.{is_empty, both, no_functions, no_prototypes, no_globals, no_declarations, with_forward, with_declaration, with_global, with_prototype, with_function, program_of}
-use Rattle.c_parser.specs.Depth.{body_depth}
 use Rattle.c_parser.proofs.Holes.{Among, Filled, in_first, in_second, in_after, NoLevel}
 use Rattle.c_parser.proofs.Pushed.{all_pushed, each_pushed, all_last}
 

@@ -1,13 +1,13 @@
 -- Lists that grow at their end: what they spell, and what they demand.
-use Rattle.std.proofs.Common.{◌≡◌, ℕ, ◌+◌, ◌≤◌, max, List, [], ◌∷◌, ◌++◌, length, refl, sym, ap, subst, ◌∙◌, arith}
+use Rattle.std.proofs.Common.{◌≡◌, ℕ, ◌+◌, ◌≤◌, List, [], ◌∷◌, ◌++◌, refl, ap, subst, arith}
 use Rattle.std.specs.List.{AllByRecursion}
-use Rattle.c_tree.specs.Tree.{Expr, Statement, Body, Empty, Then, body_of}
+use Rattle.c_tree.specs.Tree.{Expr, Statement, body_of}
 use Rattle.c_grammar.specs.Token.{Token}
-use Rattle.c_grammar.specs.Spelling.{Spelling, count, spell_all, spell_next, spell_listed, spell_statement, spell_body, spell_expr}
+use Rattle.c_grammar.specs.Spelling.{Spelling, count, spell_all, spell_statement, spell_body}
 use Rattle.c_grammar.specs.Grammar.{IsStatement, IsBody}
-use Rattle.c_grammar.specs.Demands.{Demands, Names, after, all_demands, body_demands, statement_demands, labels_in}
+use Rattle.c_grammar.specs.Demands.{Demands, Names, all_demands, body_demands, statement_demands, labels_in}
 use Rattle.c_grammar.specs.Types.{Known}
-use Rattle.c_grammar.proofs.Spelled.{Follow, count_more, all_follow, statement_follow, body_follow}
+use Rattle.c_grammar.proofs.Spelled.{Follow, count_more, statement_follow}
 use Rattle.c_parser.specs.Depth.{statement_depth, body_depth, expr_depth, arguments_depth}
 use Rattle.c_parser.proofs.Holes.{Among, in_first, in_second, in_after}
 

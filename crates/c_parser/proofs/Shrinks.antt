@@ -1,6 +1,6 @@
 -- No parser gives tokens back.
 use Rattle.std.proofs.Common.{◌≡◌, ℕ, zero, suc, ◌+◌, ◌<◌, ◌≤◌, Bool, true, false, List, [], ◌∷◌, length, Option, Some, None, Ok, Err, arith}
-use Rattle.c_tree.specs.Tree.{ObjectType, VoidPointer, Expr, Place, Variable, Pointee, Member, Index, Statement}
+use Rattle.c_tree.specs.Tree.{ObjectType, VoidPointer, Expr, Place, Statement}
 use Rattle.c_tree.specs.declared.statement.CCallee.{CCallee}
 use Rattle.c_tree.specs.declared.program.CVariable.{CVariable}
 use Rattle.c_tree.specs.declared.program.CMember.{CMember}

@@ -1,5 +1,5 @@
 -- Whether a call follows is seen by what stands after its callee.
-use Rattle.std.proofs.Common.{◌≡◌, ◌⊎◌, inl, inr, ℕ, zero, suc, ◌<◌, Bool, true, false, List, [], ◌∷◌, ◌++◌, length, refl, sym, ap, subst, ◌∙◌}
+use Rattle.std.proofs.Common.{◌≡◌, ℕ, suc, List, ◌∷◌, refl, ◌∙◌}
 use Rattle.c_tree.specs.Tree.{Expr, Read, Number, WordNumber, Null, Address, Unary, Binary, Cast, Place, Variable, Pointee, Member, Index}
 use Rattle.c_tree.specs.declared.operators.CUnary.{CUnary}
 use Rattle.c_tree.specs.declared.operators.CUnary.TheVariants as unary_
@@ -8,7 +8,7 @@ use Rattle.c_tree.specs.declared.operators.CBinary.TheVariants as binary_
 use Rattle.c_tree.specs.declared.operators.CCast.{CCast}
 use Rattle.c_tree.specs.declared.operators.CCast.TheVariants as cast_
 use Rattle.c_grammar.specs.declared.token.Mark.TheVariants as mark
-use Rattle.c_grammar.specs.Token.{Token, Identifier, Quoted, Sign}
+use Rattle.c_grammar.specs.Token.{Token, Identifier, Sign}
 use Rattle.c_grammar.specs.Spelling.{spell_cast, spell_expr, spell_place, unary_mark, binary_mark}
 use Rattle.token_parsing.specs.Parser.{begins}
 use Rattle.c_parser.specs.Classes.{same_mark}

@@ -1,5 +1,5 @@
 -- Expressions of a text are followed.
-use Rattle.std.proofs.Common.{◌≡◌, ℕ, zero, suc, ◌+◌, ◌<◌, ◌≤◌, max, Bool, true, false, List, [], ◌∷◌, length, Option, Some, None, Ok, refl, ◌∙◌, arith}
+use Rattle.std.proofs.Common.{◌≡◌, ℕ, zero, suc, ◌≤◌, Bool, true, false, List, ◌∷◌, length, Ok, refl, ◌∙◌, arith}
 use Rattle.c_tree.specs.Tree.{Expr, Read, Number, WordNumber, Null, Address, Unary, Binary, Cast, Place, Variable, Pointee, Member, Index}
 use Rattle.c_tree.specs.declared.operators.CUnary.{CUnary}
 use Rattle.c_tree.specs.declared.operators.CUnary.TheVariants as unary_
@@ -9,15 +9,15 @@ use Rattle.c_tree.specs.declared.operators.CCast.{CCast}
 use Rattle.c_tree.specs.declared.operators.CCast.TheVariants as cast_
 use Rattle.c_grammar.specs.declared.token.Word.TheVariants as word
 use Rattle.c_grammar.specs.declared.token.Mark.TheVariants as mark
-use Rattle.c_grammar.specs.Token.{Token, Identifier, Numeral, Quoted, Sign}
+use Rattle.c_grammar.specs.Token.{Token, Identifier, Sign}
 use Rattle.c_grammar.specs.Spelling.{spell_cast, spell_expr, spell_place, unary_mark, binary_mark}
 use Rattle.c_grammar.specs.Grammar.{IsExpr, IsPlace, IsNumber, IsWordNumber}
-use Rattle.token_parsing.specs.Parser.{Parser, Outcome, and_then, one_of, begins, rest, again, repeat, either}
-use Rattle.token_parsing.proofs.Tracked.{Shrinks, Short, stops_short, short_then, Along, ended, last, longer, Tracked, too_deep, one_shrinks, pure_shrinks, then_shrinks, Takes, takes_token, takes_either, along_some, same_begins, begun_short, short_tracked, track_first, track_second, track_then, track_token, track_pure, track_plain, track_left, track_turn, track_no_turn}
-use Rattle.c_parser.specs.Classes.{same_word, same_mark, names, words, marks, unaries, binaries, cast_words, expect}
+use Rattle.token_parsing.specs.Parser.{Parser, Outcome, and_then, begins, rest, again, repeat}
+use Rattle.token_parsing.proofs.Tracked.{Shrinks, Short, stops_short, short_then, Along, ended, last, longer, Tracked, too_deep, one_shrinks, pure_shrinks, then_shrinks, Takes, takes_token, takes_either, along_some, same_begins, begun_short, short_tracked, track_first, track_second, track_then, track_pure, track_plain, track_turn, track_no_turn}
+use Rattle.c_parser.specs.Classes.{same_word, same_mark, names, words, marks, unaries, cast_words}
 use Rattle.c_parser.specs.Expressions.{largest_int, largest_word, number, word_number, null, begins_selector, member, element, selected, selectors, pointee, variable, base_place, place, read_pointee, address, unary, binary, cast, begins_cast, opened, read_variable, expr_by, expr}
 use Rattle.c_parser.specs.Depth.{expr_depth, place_depth}
-use Rattle.c_parser.proofs.Shrinks.{selected_shrinks, selectors_shrinks, pointee_shrinks, base_place_shrinks, place_shrinks, cast_type_shrinks, cast_shrinks, binary_shrinks, opened_shrinks, expr_shrinks}
+use Rattle.c_parser.proofs.Shrinks.{selected_shrinks, selectors_shrinks, pointee_shrinks, place_shrinks, cast_type_shrinks, opened_shrinks, expr_shrinks}
 use Rattle.c_parser.proofs.TrackedTokens.{mark_tracked, word_tracked, name_tracked, number_tracked, unary_tracked, binary_tracked}
 use Rattle.c_parser.proofs.TrackedTypes.{cast_tracked}
 

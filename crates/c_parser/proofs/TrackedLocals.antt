@@ -1,7 +1,7 @@
 -- The locals of a block and its statements are told apart by two tokens.
-use Rattle.std.proofs.Common.{◌≡◌, ℕ, zero, suc, ◌+◌, ◌<◌, ◌≤◌, Bool, true, false, List, [], ◌∷◌, ◌++◌, length, Option, Some, None, Ok, Err, refl, sym, ap, subst, ◌∙◌, append_assoc, arith}
+use Rattle.std.proofs.Common.{◌≡◌, ℕ, zero, suc, ◌<◌, ◌≤◌, Bool, true, false, List, [], ◌∷◌, ◌++◌, length, Some, None, Ok, Err, refl, sym, ap, subst, ◌∙◌, append_assoc, arith}
 use Rattle.std.proofs.lemmas.List.{append-nil}
-use Rattle.c_tree.specs.Tree.{ObjectType, Int, Word, Byte, Struct, Named, VoidPointer, Pointer, Expr, Place, Variable, Pointee, Member, Index, Statement, Assign, Call, Malloc, Free, GetChar, PutChar, If, IfElse, While, Goto, Label, Return, body_of}
+use Rattle.c_tree.specs.Tree.{ObjectType, Int, Word, Byte, Struct, Named, VoidPointer, Pointer, Place, Variable, Pointee, Member, Index, Statement, Assign, Call, Malloc, Free, GetChar, PutChar, If, IfElse, While, Goto, Label, Return, body_of}
 use Rattle.c_tree.specs.declared.statement.CCallee.TheVariants.{Direct, Indirect}
 use Rattle.c_tree.specs.declared.program.CVariable.{CVariable}
 use Rattle.c_grammar.specs.declared.token.Word.TheVariants as word
@@ -9,8 +9,8 @@ use Rattle.c_grammar.specs.declared.token.Mark.TheVariants as mark
 use Rattle.c_grammar.specs.Token.{Token, Identifier, Numeral, Quoted, Sign}
 use Rattle.c_grammar.specs.Spelling.{spell_all, spell_listed, spell_expr, spell_place, spell_callee, spell_statement, spell_body, spell_type, spell_variable, spell_variable_line, spell_block}
 use Rattle.c_grammar.specs.Grammar.{IsBody}
-use Rattle.token_parsing.specs.Parser.{Parser, Outcome, and_then, one_of, begins, rest, again, repeat}
-use Rattle.token_parsing.proofs.Tracked.{Shrinks, Short, stops_short, short_then, Takes, Along, ended, last, longer, Tracked, one_shrinks, pure_shrinks, then_shrinks, takes_token, takes_then, takes_either, along_some, same_begins, begun_short, short_tracked, short_turn, track_first, track_second, track_then, track_pure, track_plain, track_turn, track_no_turn}
+use Rattle.token_parsing.specs.Parser.{Parser, Outcome, and_then, begins, rest, again, repeat}
+use Rattle.token_parsing.proofs.Tracked.{Shrinks, Short, stops_short, short_then, Takes, Along, ended, last, longer, Tracked, one_shrinks, pure_shrinks, then_shrinks, takes_token, takes_then, takes_either, same_begins, begun_short, short_tracked, short_turn, track_then, track_pure, track_turn, track_no_turn}
 use Rattle.c_parser.specs.Classes.{same_word, same_mark, names, words, marks, scalars, expect}
 use Rattle.c_parser.specs.Types.{struct_type, byte_type, void_pointer, base_type, object_type}
 use Rattle.c_parser.specs.Expressions.{variable, base_place, place, expr}
@@ -18,8 +18,8 @@ use Rattle.c_parser.specs.Statements.{no_brace, next_statement, statements, simp
 use Rattle.c_parser.specs.Programs as programs
 use Rattle.c_parser.specs.Programs.{variable_of, type_words, begins_local, next_local, locals, block}
 use Rattle.c_parser.specs.Depth.{body_depth}
-use Rattle.c_parser.proofs.Shrinks.{stars_shrinks, type_shrinks, selectors_shrinks, expr_shrinks, placed_shrinks, next_statement_shrinks, statements_shrinks, statement_shrinks, variable_shrinks, next_local_shrinks, locals_shrinks}
-use Rattle.c_parser.proofs.TrackedTokens.{mark_tracked, word_tracked, name_tracked}
+use Rattle.c_parser.proofs.Shrinks.{stars_shrinks, selectors_shrinks, expr_shrinks, placed_shrinks, next_statement_shrinks, statements_shrinks, statement_shrinks, next_local_shrinks, locals_shrinks}
+use Rattle.c_parser.proofs.TrackedTokens.{mark_tracked, name_tracked}
 use Rattle.c_parser.proofs.TrackedTypes.{NoStar, type_tracked}
 use Rattle.c_parser.proofs.TrackedExpressions.{expr_tracked}
 use Rattle.c_parser.proofs.TrackedStatements.{expr_taking, statements_tracked, statement_takes, statement_tracked}

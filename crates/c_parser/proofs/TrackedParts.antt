@@ -1,8 +1,8 @@
 -- The parts of a program that is a text are followed, one after the other.
-use Rattle.std.proofs.Common.{◌≡◌, ℕ, zero, suc, ◌+◌, ◌<◌, ◌≤◌, Bool, true, false, List, [], ◌∷◌, ◌++◌, length, Option, Some, None, Ok, Err, refl, sym, ap, subst, ◌∙◌, append_assoc, arith}
+use Rattle.std.proofs.Common.{◌≡◌, ℕ, ◌<◌, ◌≤◌, Bool, true, false, List, [], ◌∷◌, ◌++◌, length, Option, Some, None, Ok, refl, sym, ap, subst, ◌∙◌, append_assoc, arith}
 use Rattle.std.specs.List.{AllByRecursion}
 use Rattle.std.proofs.lemmas.List.{append-nil}
-use Rattle.c_tree.specs.Tree.{ObjectType, Int, Word, Byte, Struct, Named, VoidPointer, Pointer, Statement, body_of}
+use Rattle.c_tree.specs.Tree.{ObjectType, Int, Word, Byte, Struct, Named, VoidPointer, Pointer, body_of}
 use Rattle.c_tree.specs.declared.program.CVariable.{CVariable}
 use Rattle.c_tree.specs.declared.program.CStruct.{CStruct}
 use Rattle.c_tree.specs.declared.program.CTypedef.{CTypedef}
@@ -14,21 +14,21 @@ use Rattle.c_tree.specs.declared.program.CMain.{CMain}
 use Rattle.c_tree.specs.declared.program.CProgram.{CProgram}
 use Rattle.c_grammar.specs.declared.token.Word.TheVariants as word
 use Rattle.c_grammar.specs.declared.token.Mark.TheVariants as mark
-use Rattle.c_grammar.specs.Token.{Token, Identifier, Numeral, Quoted, Sign}
-use Rattle.c_grammar.specs.Spelling.{spell_all, spell_or_void, spell_type, spell_result, spell_body, spell_variable, spell_variable_line, spell_member, spell_forward, spell_struct, spell_typedef, spell_declaration, spell_parameters, spell_prototype, spell_block, spell_function, spell_main, program_tokens}
-use Rattle.c_grammar.specs.Grammar.{IsBody, IsStruct, IsDeclaration, IsFunction, IsMain, IsProgram}
-use Rattle.token_parsing.specs.Parser.{Parser, Outcome, and_then, one_of, begins, rest, again, repeat, either}
-use Rattle.token_parsing.proofs.Tracked.{Shrinks, Takes, Along, ended, last, longer, Tracked, one_shrinks, pure_shrinks, then_shrinks, takes_token, takes_then, takes_either, along_some, same_begins, track_first, track_second, track_then, track_pure, track_plain, track_left, track_turn, track_no_turn}
+use Rattle.c_grammar.specs.Token.{Token, Identifier, Quoted, Sign}
+use Rattle.c_grammar.specs.Spelling.{spell_all, spell_type, spell_result, spell_variable_line, spell_forward, spell_struct, spell_typedef, spell_declaration, spell_parameters, spell_prototype, spell_block, spell_function, spell_main, program_tokens}
+use Rattle.c_grammar.specs.Grammar.{IsStruct, IsDeclaration, IsFunction, IsMain, IsProgram}
+use Rattle.token_parsing.specs.Parser.{Parser, and_then, begins, rest, again, repeat}
+use Rattle.token_parsing.proofs.Tracked.{Shrinks, Takes, Along, ended, last, longer, Tracked, one_shrinks, pure_shrinks, then_shrinks, takes_token, takes_then, takes_either, along_some, same_begins, track_first, track_second, track_then, track_pure, track_turn, track_no_turn}
 use Rattle.c_parser.specs.declared.program.Parts.{Parts}
-use Rattle.c_parser.specs.Classes.{same_word, same_mark, names, words, marks, expect}
+use Rattle.c_parser.specs.Classes.{same_word, same_mark, words, marks}
 use Rattle.c_parser.specs.Types.{pointer_to, object_type, stars, result_type, after_void}
-use Rattle.c_parser.specs.Programs.{variable_of, members, typedef, parameters, block, no_functions, no_prototypes, no_globals, no_declarations, with_forward, with_declaration, with_global, with_prototype, with_function, forward, structure, type_definition, global, prototype, function, after_parameters, after_name, after_result, after_struct_name, after_struct, next_part, no_int, no_parts, parts, main_of, main, program_of, end_of, program}
+use Rattle.c_parser.specs.Programs.{typedef, block, no_functions, no_prototypes, no_globals, no_declarations, with_forward, with_declaration, with_global, with_prototype, with_function, forward, structure, type_definition, prototype, function, after_parameters, after_name, after_result, after_struct_name, after_struct, next_part, no_int, parts, main_of, main, program_of, end_of, program}
 use Rattle.c_parser.specs.Depth.{body_depth, Fits}
-use Rattle.c_parser.proofs.Shrinks.{pointer_to_shrinks, after_shrinks, typedef_ends, stars_shrinks, type_shrinks, result_shrinks, members_shrinks, typedef_shrinks, parameters_shrinks, block_shrinks, after_parameters_shrinks, after_name_shrinks, after_result_shrinks, after_struct_name_shrinks, next_part_shrinks, main_shrinks, end_shrinks}
+use Rattle.c_parser.proofs.Shrinks.{pointer_to_shrinks, after_shrinks, typedef_ends, block_shrinks, after_parameters_shrinks, after_name_shrinks, after_result_shrinks, after_struct_name_shrinks, next_part_shrinks, main_shrinks, end_shrinks}
 use Rattle.c_parser.proofs.TrackedTokens.{mark_tracked, word_tracked, name_tracked}
 use Rattle.c_parser.proofs.TrackedTypes.{NoStar, result_tracked}
 use Rattle.c_parser.proofs.TrackedLocals.{type_takes, block_tracked}
-use Rattle.c_parser.proofs.TrackedPrograms.{TypeBegun, type_begun, result_begun, members_tracked, typedef_tracked, parameters_tracked}
+use Rattle.c_parser.proofs.TrackedPrograms.{result_begun, members_tracked, typedef_tracked, parameters_tracked}
 
 -- ---- what follows a type, and types of structs
 

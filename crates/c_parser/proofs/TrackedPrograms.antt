@@ -1,37 +1,26 @@
 -- Declarations and programs that are texts are followed.
-use Rattle.std.proofs.Common.{◌≡◌, ◌≢◌, ℕ, zero, suc, ◌+◌, ◌<◌, ◌≤◌, Bool, true, false, List, [], ◌∷◌, ◌++◌, length, Option, Some, None, Ok, Err, refl, sym, ap, subst, ◌∙◌, append_assoc, arith}
+use Rattle.std.proofs.Common.{◌≡◌, ◌≢◌, ℕ, true, false, List, [], ◌∷◌, ◌++◌, length, Option, Some, None, Ok, refl, arith}
 use Rattle.std.specs.List.{AllByRecursion}
 use Rattle.std.specs.Option.{IfSome}
-use Rattle.std.proofs.lemmas.List.{append-nil}
-use Rattle.c_tree.specs.Tree.{ObjectType, Int, Word, Byte, Struct, Named, VoidPointer, Pointer, Statement, body_of}
+use Rattle.c_tree.specs.Tree.{ObjectType, Int, Word, Byte, Struct, Named, VoidPointer, Pointer}
 use Rattle.c_tree.specs.declared.program.CVariable.{CVariable}
 use Rattle.c_tree.specs.declared.program.CMember.{CMember}
-use Rattle.c_tree.specs.declared.program.CStruct.{CStruct}
 use Rattle.c_tree.specs.declared.program.CTypedef.{CTypedef}
-use Rattle.c_tree.specs.declared.program.CDeclaration.{CDeclaration}
-use Rattle.c_tree.specs.declared.program.CDeclaration.TheVariants as declared
-use Rattle.c_tree.specs.declared.program.CPrototype.{CPrototype}
-use Rattle.c_tree.specs.declared.program.CFunction.{CFunction}
-use Rattle.c_tree.specs.declared.program.CMain.{CMain}
-use Rattle.c_tree.specs.declared.program.CProgram.{CProgram}
 use Rattle.c_grammar.specs.declared.token.Word.TheVariants as word
 use Rattle.c_grammar.specs.declared.token.Mark.TheVariants as mark
-use Rattle.c_grammar.specs.Token.{Token, Identifier, Numeral, Quoted, Sign}
-use Rattle.c_grammar.specs.Spelling.{Spelling, spell_all, spell_next, spell_listed, spell_or_void, spell_type, spell_result, spell_body, spell_variable, spell_variable_line, spell_length, spell_member, spell_forward, spell_struct, spell_typedef, spell_declaration, spell_parameters, spell_prototype, spell_block, spell_function, spell_main, program_tokens}
-use Rattle.c_grammar.specs.Grammar.{IsNumber, IsBody, IsMember, IsStruct, IsDeclaration, IsFunction, IsMain, IsProgram}
-use Rattle.token_parsing.specs.Parser.{Parser, Outcome, and_then, one_of, begins, rest, again, repeat, either}
-use Rattle.token_parsing.proofs.Tracked.{Shrinks, Takes, Along, ended, last, longer, Tracked, meets, one_shrinks, pure_shrinks, then_shrinks, either_shrinks, repeat_shrinks, takes_token, takes_then, takes_either, along_some, same_begins, track_first, track_second, track_then, track_pure, track_plain, track_left, track_turn, track_no_turn, Item, Listing, track_list}
-use Rattle.c_parser.specs.declared.program.Parts.{Parts}
-use Rattle.c_parser.specs.Classes.{same_word, same_mark, names, words, marks, expect, expect_word}
-use Rattle.c_parser.specs.Types.{struct_type, base_type, pointer_to, object_type, stars, result_type, after_void}
+use Rattle.c_grammar.specs.Token.{Token, Identifier, Sign}
+use Rattle.c_grammar.specs.Spelling.{spell_all, spell_next, spell_or_void, spell_type, spell_result, spell_variable, spell_length, spell_member, spell_typedef, spell_parameters}
+use Rattle.c_grammar.specs.Grammar.{IsNumber, IsMember}
+use Rattle.token_parsing.specs.Parser.{and_then, begins, rest}
+use Rattle.token_parsing.proofs.Tracked.{Shrinks, Along, Tracked, one_shrinks, pure_shrinks, then_shrinks, repeat_shrinks, takes_token, takes_then, same_begins, track_first, track_second, track_then, track_pure, Item, Listing, track_list}
+use Rattle.c_parser.specs.Classes.{same_word, same_mark, words, marks, expect}
 use Rattle.c_parser.specs.Expressions.{largest_int}
 use Rattle.c_parser.specs.Statements.{no_brace}
-use Rattle.c_parser.specs.Programs.{variable_of, variable, array_length, member_of, member, next_member, members, next_type, types_after, types, typedef_of, pointer_name, typedef, next_parameter, parameters_after, parameters, block, no_functions, no_prototypes, no_globals, no_declarations, with_forward, with_declaration, with_global, with_prototype, with_function, forward, struct_of, structure, type_definition, global, prototype_of, prototype, function_of, function, after_parameters, after_name, after_result, after_struct_name, after_struct, next_part, no_int, no_parts, parts, main_of, main, program_of, end_of, program}
-use Rattle.c_parser.specs.Depth.{body_depth, Fits}
-use Rattle.c_parser.proofs.Shrinks.{pointer_to_shrinks, stars_shrinks, type_shrinks, result_shrinks, variable_shrinks, length_shrinks, member_shrinks, next_member_shrinks, members_shrinks, next_type_shrinks, types_after_shrinks, types_shrinks, pointer_name_shrinks, typedef_shrinks, next_parameter_shrinks, parameters_after_shrinks, parameters_shrinks, block_shrinks, forward_shrinks, structure_shrinks, global_shrinks, after_parameters_shrinks, after_name_shrinks, after_result_shrinks, after_struct_name_shrinks, next_part_shrinks, main_shrinks, end_shrinks}
+use Rattle.c_parser.specs.Programs.{variable_of, variable, array_length, member_of, member, next_member, members, next_type, types, typedef_of, pointer_name, typedef, next_parameter, parameters, no_int}
+use Rattle.c_parser.proofs.Shrinks.{type_shrinks, result_shrinks, variable_shrinks, length_shrinks, member_shrinks, next_member_shrinks, next_type_shrinks, types_after_shrinks, types_shrinks, next_parameter_shrinks, parameters_after_shrinks}
 use Rattle.c_parser.proofs.TrackedTokens.{mark_tracked, word_tracked, name_tracked, number_tracked}
 use Rattle.c_parser.proofs.TrackedTypes.{NoStar, type_tracked, result_tracked}
-use Rattle.c_parser.proofs.TrackedLocals.{variable_tracked, type_takes, variable_takes, block_tracked}
+use Rattle.c_parser.proofs.TrackedLocals.{variable_tracked, variable_takes}
 use Rattle.c_parser.proofs.TrackedStatements.{brace_steady}
 
 -- ---- with what a type begins

@@ -1,30 +1,27 @@
 -- Statements of a text are followed.
-use Rattle.std.proofs.Common.{◌≡◌, ◌⊎◌, inl, inr, ℕ, zero, suc, ◌+◌, ◌<◌, ◌≤◌, max, Bool, true, false, List, [], ◌∷◌, ◌++◌, length, Option, Some, None, Ok, refl, sym, ap, subst, ◌∙◌, arith}
+use Rattle.std.proofs.Common.{◌≡◌, ◌⊎◌, inl, inr, ℕ, zero, suc, ◌<◌, ◌≤◌, Bool, true, false, List, [], ◌∷◌, ◌++◌, length, Option, Some, None, Ok, refl, sym, ap, subst, ◌∙◌, arith}
 use Rattle.std.specs.List.{AllByRecursion}
 use Rattle.std.specs.Option.{IfSome}
-use Rattle.c_tree.specs.Tree.{ObjectType, Expr, Read, Number, WordNumber, Null, Address, Unary, Binary, Cast, Place, Variable, Pointee, Member, Index, Statement, Assign, Call, Malloc, Free, GetChar, PutChar, If, IfElse, While, Goto, Label, Return, Body, Empty, Then, body_of, list_of, body_of-list_of}
-use Rattle.c_tree.specs.declared.operators.CUnary.{CUnary}
-use Rattle.c_tree.specs.declared.operators.CUnary.TheVariants as unary_
+use Rattle.c_tree.specs.Tree.{ObjectType, Expr, Read, Number, WordNumber, Null, Address, Unary, Binary, Cast, Place, Variable, Pointee, Member, Index, Statement, Assign, Call, Malloc, Free, GetChar, PutChar, If, IfElse, While, Goto, Label, Return, body_of, list_of, body_of-list_of}
 use Rattle.c_tree.specs.declared.statement.CCallee.{CCallee}
 use Rattle.c_tree.specs.declared.statement.CCallee.TheVariants.{Direct, Indirect}
 use Rattle.c_grammar.specs.declared.token.Word.{Word as QuotedWord}
 use Rattle.c_grammar.specs.declared.token.Word.TheVariants as word
 use Rattle.c_grammar.specs.declared.token.Mark.TheVariants as mark
-use Rattle.c_grammar.specs.Token.{Token, Identifier, Numeral, Quoted, Sign}
-use Rattle.c_grammar.specs.Spelling.{spell_all, spell_next, spell_listed, spell_expr, spell_place, spell_into, spell_callee, spell_value, spell_statement, spell_body, spell_type, unary_mark, binary_mark}
-use Rattle.c_grammar.specs.Grammar.{IsExpr, IsPlace, IsCallee, IsStatement, IsBody, IsObjectType}
+use Rattle.c_grammar.specs.Token.{Token, Identifier, Quoted, Sign}
+use Rattle.c_grammar.specs.Spelling.{spell_all, spell_next, spell_listed, spell_expr, spell_place, spell_callee, spell_value, spell_statement, spell_body, spell_type, binary_mark}
+use Rattle.c_grammar.specs.Grammar.{IsExpr, IsPlace, IsCallee, IsStatement, IsBody}
 use Rattle.c_grammar.proofs.Spelled.{expr_follow}
-use Rattle.token_parsing.specs.Parser.{Parser, Outcome, and_then, one_of, begins, rest, again, repeat, either}
-use Rattle.token_parsing.proofs.Tracked.{Shrinks, Short, relaxed, stops_short, short_then, Takes, Along, ended, last, longer, Tracked, too_deep, one_shrinks, pure_shrinks, then_shrinks, either_shrinks, repeat_shrinks, takes_token, takes_then, takes_either, along_some, along_split, same_begins, begun_short, short_tracked, other_text, track_first, track_second, track_then, track_token, track_pure, track_plain, track_left, Item, Listing, track_list}
-use Rattle.c_parser.specs.Classes.{same_word, same_mark, names, words, marks, unaries, expect}
-use Rattle.c_parser.specs.Types.{object_type}
-use Rattle.c_parser.specs.Expressions.{begins_selector, selectors, pointee, variable, base_place, place, opened, read_variable, read_pointee, expr_by, expr}
-use Rattle.c_parser.specs.Statements.{next_argument, some_arguments, listed_arguments, call, indirect, callee, after_group, calls, malloc_opening, malloc, get_char, value, call_into, assigned, callee_of, label_of, called, labelled, placed, free, put_char, goto, returned, return_with, no_brace, next_statement, statements, body, test, otherwise, conditional, while_loop, simple, statement_by, statement}
-use Rattle.c_parser.specs.Depth.{expr_depth, place_depth, into_depth, callee_depth, arguments_depth, value_depth, statement_depth, body_depth}
-use Rattle.c_parser.proofs.Shrinks.{type_shrinks, selectors_shrinks, pointee_shrinks, place_shrinks, opened_shrinks, expr_shrinks, next_argument_shrinks, arguments_shrinks, call_shrinks, callee_shrinks, malloc_shrinks, get_char_shrinks, value_shrinks, call_into_shrinks, placed_shrinks, returned_shrinks, test_shrinks, next_statement_shrinks, statements_shrinks, body_shrinks, otherwise_shrinks, statement_shrinks}
+use Rattle.token_parsing.specs.Parser.{Parser, one_of, begins, rest, either}
+use Rattle.token_parsing.proofs.Tracked.{Shrinks, Short, relaxed, stops_short, short_then, Takes, Along, ended, last, longer, Tracked, too_deep, one_shrinks, pure_shrinks, then_shrinks, either_shrinks, repeat_shrinks, takes_token, takes_then, takes_either, along_split, same_begins, begun_short, short_tracked, other_text, track_first, track_second, track_then, track_pure, Item, Listing, track_list}
+use Rattle.c_parser.specs.Classes.{same_word, same_mark, names, words, marks}
+use Rattle.c_parser.specs.Expressions.{pointee, variable, base_place, place, opened, read_variable, read_pointee, expr_by, expr}
+use Rattle.c_parser.specs.Statements.{next_argument, some_arguments, listed_arguments, call, indirect, callee, after_group, calls, malloc_opening, malloc, get_char, value, call_into, assigned, callee_of, called, placed, free, put_char, goto, returned, return_with, no_brace, next_statement, statements, body, test, otherwise, conditional, while_loop, simple, statement_by, statement}
+use Rattle.c_parser.specs.Depth.{expr_depth, place_depth, callee_depth, arguments_depth, value_depth, statement_depth, body_depth}
+use Rattle.c_parser.proofs.Shrinks.{type_shrinks, selectors_shrinks, pointee_shrinks, opened_shrinks, expr_shrinks, next_argument_shrinks, arguments_shrinks, call_shrinks, malloc_shrinks, get_char_shrinks, value_shrinks, call_into_shrinks, placed_shrinks, returned_shrinks, test_shrinks, next_statement_shrinks, statements_shrinks, body_shrinks, otherwise_shrinks, statement_shrinks}
 use Rattle.c_parser.proofs.TrackedTokens.{mark_tracked, word_tracked, name_tracked}
-use Rattle.c_parser.proofs.TrackedTypes.{NoStar, type_tracked}
-use Rattle.c_parser.proofs.TrackedExpressions.{NoSelector, no_selector_mark, Starts, expr_starts, unary_no_star, ExprTracked, place_tracked, expr_tracked}
+use Rattle.c_parser.proofs.TrackedTypes.{type_tracked}
+use Rattle.c_parser.proofs.TrackedExpressions.{NoSelector, no_selector_mark, expr_starts, unary_no_star, ExprTracked, place_tracked, expr_tracked}
 use Rattle.c_parser.proofs.TrackedCalls.{expr_skipped}
 
 -- ---- what an expression does not begin with

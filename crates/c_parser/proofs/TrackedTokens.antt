@@ -1,6 +1,5 @@
 -- Tokens of a text that is followed.
-use Rattle.std.proofs.Common.{◌≡◌, ℕ, ◌≤◌, Bool, true, false, List, [], ◌∷◌, length, Option, Some, None, refl, ap, ◌∙◌}
-use Rattle.std.specs.Prelude.{nat_le}
+use Rattle.std.proofs.Common.{◌≡◌, ℕ, ◌≤◌, List, ◌∷◌, Some, refl, ap}
 use Rattle.std.proofs.lemmas.Bool.{le-leb}
 use denote.Enum.Bare.{true_same}
 use Rattle.c_grammar.specs.contracts.token.Word as the_words
@@ -13,8 +12,8 @@ use Rattle.c_grammar.specs.declared.token.Word.{Word as QuotedWord}
 use Rattle.c_grammar.specs.declared.token.Mark.{Mark}
 use Rattle.c_grammar.specs.Token.{Token, Identifier, Numeral, Quoted, Sign}
 use Rattle.c_grammar.specs.Spelling.{unary_mark, binary_mark}
-use Rattle.token_parsing.specs.Parser.{Parser, Class, and_then, one_of, begins}
-use Rattle.token_parsing.proofs.Tracked.{Shrinks, Along, Tracked, track_token, same_begins}
+use Rattle.token_parsing.specs.Parser.{Parser, and_then, one_of}
+use Rattle.token_parsing.proofs.Tracked.{Shrinks, Along, Tracked, track_token}
 use Rattle.c_parser.specs.Classes.{same_word, same_mark, if_true, names, numbers, words, marks, unaries, binaries, expect, expect_word}
 
 mark_here : (m : Mark) → marks m (Sign m) ≡ Some tt

@@ -1,11 +1,11 @@
 -- Types and casts of a text are followed.
-use Rattle.std.proofs.Common.{◌≡◌, ℕ, zero, suc, ◌≤◌, Bool, true, false, List, [], ◌∷◌, length, Option, Some, None, Ok, refl, ◌∙◌, arith}
+use Rattle.std.proofs.Common.{◌≡◌, ℕ, ◌≤◌, false, List, ◌∷◌, length, Option, Some, None, Ok, refl, ◌∙◌, arith}
 use Rattle.c_tree.specs.Tree.{ObjectType, Int, Word, Byte, Struct, Named, VoidPointer, Pointer}
 use Rattle.c_tree.specs.declared.operators.CCast.{CCast}
 use Rattle.c_tree.specs.declared.operators.CCast.TheVariants as cast_
 use Rattle.c_grammar.specs.declared.token.Word.TheVariants as word
 use Rattle.c_grammar.specs.declared.token.Mark.TheVariants as mark
-use Rattle.c_grammar.specs.Token.{Token, Identifier, Quoted, Sign}
+use Rattle.c_grammar.specs.Token.{Token, Sign}
 use Rattle.c_grammar.specs.Spelling.{spell_type, spell_result, spell_cast}
 use Rattle.token_parsing.specs.Parser.{Parser, Outcome, and_then, begins, again, repeat}
 use Rattle.token_parsing.proofs.Tracked.{Shrinks, Along, Tracked, one_shrinks, pure_shrinks, then_shrinks, takes_token, along_some, same_begins, track_first, track_second, track_then, track_token, track_pure, track_plain, track_left, track_turn, track_no_turn}

@@ -1,5 +1,5 @@
 -- What a token says, where it is of some class.
-use Rattle.std.specs.Prelude.{◌≡◌, ℕ, nat_le, Bool, true, false, List, Option, Some, None}
+use Rattle.std.specs.Prelude.{ℕ, nat_le, Bool, true, false, List, Option, Some, None}
 use denote.Enum.Bare.{sameb}
 use Rattle.c_tree.specs.declared.operators.CUnary.{CUnary}
 use Rattle.c_tree.specs.declared.operators.CUnary.TheVariants as unary
@@ -7,7 +7,7 @@ use Rattle.c_tree.specs.declared.operators.CBinary.{CBinary}
 use Rattle.c_tree.specs.declared.operators.CBinary.TheVariants as binary
 use Rattle.c_tree.specs.declared.operators.CCast.{CCast}
 use Rattle.c_tree.specs.declared.operators.CCast.TheVariants as cast
-use Rattle.c_tree.specs.Tree.{ObjectType, Int, Word, Byte, Struct, Named, VoidPointer, Pointer}
+use Rattle.c_tree.specs.Tree.{ObjectType, Int, Word}
 use Rattle.c_grammar.specs.declared.token.Word.{Word as QuotedWord}
 use Rattle.c_grammar.specs.declared.token.Word.TheVariants as word
 use Rattle.c_grammar.specs.declared.token.Mark.{Mark}

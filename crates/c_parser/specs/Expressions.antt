@@ -1,7 +1,6 @@
 -- Expressions and places are read. Only what may nest takes the number of levels that are left.
-use Rattle.std.specs.Prelude.{ℕ, zero, suc, Bool, true, false, List, Option}
+use Rattle.std.specs.Prelude.{ℕ, zero, suc, Bool, true, false, List}
 use Rattle.c_tree.specs.Tree.{Expr, Read, Number, WordNumber, Null, Address, Unary, Binary, Cast, Place, Variable, Pointee, Member, Index}
-use Rattle.c_tree.specs.declared.operators.CUnary.{CUnary}
 use Rattle.c_grammar.specs.declared.token.Word.TheVariants as word
 use Rattle.c_grammar.specs.declared.token.Mark.TheVariants as mark
 use Rattle.c_grammar.specs.Token.{Token}

@@ -1,6 +1,6 @@
 -- Types and casts are read.
-use Rattle.std.specs.Prelude.{ℕ, List, Option, Some, None}
-use Rattle.c_tree.specs.Tree.{ObjectType, Int, Word, Byte, Struct, Named, VoidPointer, Pointer}
+use Rattle.std.specs.Prelude.{Option, Some, None}
+use Rattle.c_tree.specs.Tree.{ObjectType, Byte, Struct, Named, VoidPointer, Pointer}
 use Rattle.c_tree.specs.declared.operators.CCast.{CCast}
 use Rattle.c_tree.specs.declared.operators.CCast.TheVariants as cast
 use Rattle.c_grammar.specs.declared.token.Word.TheVariants as word

@@ -1,14 +1,8 @@
-use Rattle.std.proofs.Common.{◌≡◌, [], ◌∷◌, arith, rules, ap, ◌∙◌}
+use Rattle.std.proofs.Common.{◌≡◌, arith, rules, ap}
 use Rattle.std.proofs.lemmas.Grind.{common_steps}
-use Rattle.c_grammar.specs.declared.token.Word.TheVariants as word
-use Rattle.c_grammar.specs.declared.token.Mark.TheVariants as mark
 use Rattle.c_grammar.specs.Seen.{tokens_of}
-use Rattle.token_parsing.specs.Parser.{begins, again, repeat}
-use Rattle.c_parser.specs.Classes.{marks, words}
-use Rattle.c_parser.specs.Types as types
+use Rattle.token_parsing.specs.Parser.{again, repeat}
 use Rattle.c_parser.specs.Expressions as expressions
-use Rattle.c_parser.specs.Statements as statements
-use Rattle.c_parser.specs.Programs as programs
 use Rattle.c_parser.specs.Expressions.{expr, selectors}
 use Rattle.c_parser.proofs.Turns.{one_more, no_more, as_long, deeper}
 use Rattle.c_parser.proofs.expressions.+descent.Goals as goal

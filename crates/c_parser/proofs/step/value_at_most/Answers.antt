@@ -1,4 +1,4 @@
-use Rattle.std.proofs.Common.{◌≡◌, ◌+◌, ◌*◌, ◌∙◌, sym, ap, arith}
+use Rattle.std.proofs.Common.{arith}
 use Rattle.std.specs.Str.Parse.{digits_value}
 use Rattle.c_parser.proofs.Digits.{too_large}
 use Rattle.c_parser.proofs.step.value_at_most.Goals as goal

@@ -1,4 +1,4 @@
-use Rattle.std.proofs.Common.{◌≡◌, arith, rules, ap, ◌∙◌}
+use Rattle.std.proofs.Common.{arith, rules, ap}
 use Rattle.std.proofs.lemmas.Grind.{common_steps}
 use Rattle.c_grammar.specs.declared.token.Mark.TheVariants as mark
 use Rattle.c_grammar.specs.Seen.{tokens_of}
