@@ -1,12 +1,12 @@
 //! The trees with which blocks begin.
-ghost use Rattle.std.specs.Prelude.{◌≡◌, IfOk, reverse};
-ghost use Rattle.c_meaning.specs.Fresh.{fresh, struct_tree, members_tree, member_tree, copies};
+ghost use Rattle.std.specs.Prelude.{◌≡◌, ◌++◌, ◌<◌, ◌^◌, IfOk, OnOk, length, reverse};
+ghost use Rattle.c_meaning.specs.Fresh.{fresh, fresh_blocks, struct_tree, members_tree, member_tree, copies};
 ghost use Rattle.c_cells.specs.Scalars.{scalar_tree};
 
 use crate::cell::{Cell, CellNode, copied};
-use crate::memory::Block;
+use crate::memory::{Block, Memory};
 use crate::tree::CellTree;
-use c_tree::program::{CDeclaration, CMember};
+use c_tree::program::{CDeclaration, CMember, CVariable};
 use c_tree::types::{CType, CTypeNode};
 use std::alloc::{AllocError, Global};
 use tree_lists::Items;
@@ -41,6 +41,27 @@ pub fn fresh_block(
         tree: fresh(alloc, zeroed, declared, of)?,
         heap,
     })
+}
+
+/// Makes the blocks of variables. The answer is the number of the block that is made next.
+#[tactic(auto, unfolding(c_meaning::specs::Fresh::fresh_blocks, c_meaning::specs::Fresh::fresh_block))]
+pub fn push_fresh(
+    alloc: Global,
+    zeroed: bool,
+    declared: &[CDeclaration],
+    variables: &[CVariable],
+    memory: &mut Memory,
+) -> Result<usize, AllocError>
+    ensures blocks { OnOk result (memory.new ≡ memory.old ++ fresh_blocks zeroed declared.now variables.now) }
+    ensures number { IfOk result (λ n. n ≡ length memory.new) }
+    ensures small { OnOk result (length memory.new < 2 ^ 63) }
+{
+    let mut rest = variables;
+    while let [first, after @ ..] = rest {
+        memory.push(fresh_block(alloc, zeroed, false, declared, &first.of)?)?;
+        rest = after;
+    }
+    Ok(memory.made())
 }
 
 /// A scalar that is zero, or holds nothing.

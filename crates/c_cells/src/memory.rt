@@ -1,5 +1,5 @@
 //! Blocks by their numbers.
-ghost use Rattle.std.specs.Prelude.{◌≡◌, ◌<◌, ◌∷◌, ◌++◌, [], OnOk, OnErr, IfErr, vec_len, length, slice_get, slice_set};
+ghost use Rattle.std.specs.Prelude.{◌≡◌, ◌<◌, ◌^◌, ◌∷◌, ◌++◌, [], OnOk, OnErr, IfErr, vec_len, length, slice_get, slice_set};
 ghost use Rattle.std.specs.Option.{option_copied};
 ghost use Rattle.c_meaning.specs.Cells.{block_at, with_part};
 ghost use Rattle.c_meaning.specs.Answer.{Got, Bad};
@@ -75,7 +75,8 @@ impl Memory {
 
     /// How many blocks were made: the number of the next one.
     pub fn made(&self) -> usize
-        ensures { result ≡ length self.now }
+        ensures value { result ≡ length self.now }
+        ensures small { result < 2 ^ 63 }
     {
         self.blocks.len()
     }
@@ -97,6 +98,16 @@ impl Memory {
         ensures err { OnErr result (self.new ≡ self.old) }
     {
         self.blocks.push(Some(block))?;
+        Ok(())
+    }
+
+    /// Makes the blocks of another memory, in order.
+    pub fn append(&mut self, more: Memory) -> Result<(), AllocError>
+        ensures ok { OnOk result (self.new ≡ self.old ++ more) }
+        ensures err { OnErr result (self.new ≡ self.old) }
+    {
+        let Memory { mut blocks } = more;
+        self.blocks.append(&mut blocks)?;
         Ok(())
     }
 

@@ -1,11 +1,7 @@
-pub mod Halts
-pub mod Types
-pub mod Values
-pub mod Operators
-pub mod Scopes
-pub mod Casts
-pub mod Evaluations
 pub mod Spots
 pub mod Labels
-pub mod Stores
 pub mod Runners
+pub mod Calls
+pub mod Marks
+pub mod Leaving
+pub mod Machines

@@ -1,5 +1,6 @@
 -- The state that the frames and the memory stand for.
-use Rattle.std.specs.Prelude.{◌≡◌, ℕ, ◌+◌, ◌<◌, ◌^◌, List, [], ◌∷◌, ◌++◌, length, Option, Some, None, slice_get, Result, Ok, Err}
+pub use Rattle.held_bytes.specs.Held.{first_of}
+use Rattle.std.specs.Prelude.{◌≡◌, ◌⊎◌, Bool, true, false, ℕ, ◌+◌, ◌<◌, ◌^◌, List, [], ◌∷◌, ◌++◌, length, Option, Some, None, slice_get, All, Result, Ok, Err}
 use Rattle.c_tree.specs.Tree as t
 use Rattle.c_tree.specs.Tree.{ObjectType, Statement}
 use Rattle.c_tree.specs.declared.program.CVariable.{CVariable}
@@ -11,9 +12,10 @@ use Rattle.c_meaning.specs.States as m
 use Rattle.c_meaning.specs.States.{State, view}
 use Rattle.c_meaning.specs.Steps as n
 use Rattle.c_meaning.specs.Steps.{Next, names_from}
-use Rattle.c_stepper.specs.Spots.{todo_of}
-use Rattle.c_stepper.specs.declared.halt.Halt.{Halt}
-use Rattle.c_stepper.specs.declared.halt.Halt.TheVariants.{Stuck, Memory}
+use Rattle.c_meaning.specs.Cells.{Name}
+use Rattle.c_stepper.specs.Spots.{list_in, todo_of}
+use Rattle.c_evaluation.specs.declared.halt.Halt.{Halt}
+use Rattle.c_evaluation.specs.declared.halt.Halt.TheVariants.{Stuck, Memory}
 use Rattle.c_stepper.specs.declared.runner.Target.{Target}
 use Rattle.c_stepper.specs.declared.runner.Target.TheVariants as g
 use Rattle.c_stepper.specs.declared.runner.Frame.{Frame}
@@ -50,9 +52,22 @@ body_at c f = (parts_at c f.function).body
 abbrev pub variables_at : CProgram → Frame → List CVariable
 variables_at c f = let p = parts_at c f.function in p.parameters ++ p.locals
 
+abbrev pub name_of : Option CFunction → Name
+name_of None = []
+name_of (Some f) = f.name
+
+-- the name of the function with a number
+abbrev pub name_at : CProgram → ℕ → Name
+name_at c n = name_of (slice_get c.functions n)
+
 -- the numbers of the blocks of a function are in range
 abbrev pub FitsFrame : CProgram → Frame → Type 0
 FitsFrame c f = let p = parts_at c f.function in f.base + (length p.parameters + length p.locals) < 2 ^ 63
+
+-- and of all functions
+pub record FitsFrames (c : CProgram) (it : Runner) : Type 0 where
+  pub frame : FitsFrame c it.frame
+  pub below : All (FitsFrame c) it.below.items
 
 abbrev pub stored_type : Option ℕ → ObjectType → y.PlaceType
 stored_type None of = y.Plain of
@@ -94,10 +109,34 @@ runner_view c it = view c it.frame.reach (names_from it.frame.base (variables_at
 abbrev pub Acts : CProgram → Runner → (input output calls : List ℕ) → Result Done Halt → Next → Type 0
 Acts c new input output calls (Ok d.Going) next = n.Onward (state_of c new input output calls) ≡ next
 Acts c new input output calls (Ok (d.Wrote b)) next = n.Onward (state_of c new input (output ++ b ∷ []) calls) ≡ next
+Acts c new input output calls (Ok d.Entered) next = (k : ℕ) × (n.Onward (state_of c new input output (calls ++ k ∷ [])) ≡ next)
+Acts c new input output calls (Ok (d.Ended status)) next = n.Ended status output calls ≡ next
 Acts c new input output calls (Err (Stuck kind)) next = n.Halted kind output ≡ next
 Acts c new input output calls (Err Memory) next = Unit {0}
 
--- the byte that comes next
-abbrev pub first_of : List ℕ → Option ℕ
-first_of [] = None
-first_of (b ∷ rest) = Some b
+-- ---- the statement that comes next
+
+-- each list that is done was left
+abbrev pub IsSettled : CProgram → Frame → Type 0
+IsSettled c f = (f.spot.at < length (list_in (body_at c f) f.spot.outer.items)) ⊎ (f.spot.outer.items ≡ [])
+
+abbrev pub statement_at : CProgram → Frame → Option Statement
+statement_at c f = slice_get (list_in (body_at c f) f.spot.outer.items) f.spot.at
+
+abbrev pub is_reading : Statement → Bool
+is_reading (t.GetChar at) = true
+is_reading _ = false
+
+abbrev pub reads_in : Option Statement → Bool
+reads_in None = false
+reads_in (Some s) = is_reading s
+
+-- whether a `getchar` comes next
+abbrev pub reads_here : CProgram → Frame → Bool
+reads_here c f = reads_in (statement_at c f)
+
+-- the function that runs and those that wait for it are the same ones
+pub record Stays (old new : Runner) : Type 0 where
+  pub function : new.frame.function ≡ old.frame.function
+  pub base : new.frame.base ≡ old.frame.base
+  pub below : new.below.items ≡ old.below.items

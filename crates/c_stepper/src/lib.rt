@@ -1,22 +1,17 @@
-//! What a statement of a running C program does, over the memory of c_cells.
+//! The runner of C programs.
 //!
-//! `evaluate` gives the value of an expression and the place of a place expression, or the stuck
-//! kind, as the meaning of C does. `runner` does each kind of statement but calls and `return`, with
-//! the contract that it does what `do_statement` says, for every input and output.
+//! A `Machine` does one step after another of a program, each as the meaning of C does it, with
+//! pieces of input and output of 4,096 bytes; `run` does at most so many steps.
 #![tactic(auto)]
 
-mod cast;
-mod evaluate;
-mod halt;
+mod act;
+mod call;
+mod frames;
 mod label;
-mod operate;
-mod place;
-mod read;
+mod leave;
+mod machine;
+mod names;
 mod runner;
-mod scope;
 mod spot;
-mod store;
-#[cfg(test)]
-mod tests;
-mod types;
-mod value;
+
+pub use machine::{Ended, Machine, Stepped, run};

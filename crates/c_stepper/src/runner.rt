@@ -1,23 +1,22 @@
 //! The functions that run, with the memory.
-ghost use Rattle.std.specs.Prelude.{◌≡◌, ◌+◌, ◌<◌, ◌^◌, ℕ, List, Some, slice_get};
+ghost use Rattle.std.specs.Prelude.{◌≡◌, ◌+◌, ◌<◌, ◌^◌, ℕ, List, Some, IfOk, slice_get};
 ghost use Rattle.c_tree.specs.Tree as t;
 ghost use Rattle.c_tree.specs.Tree.{body_of};
 ghost use Rattle.c_meaning.specs.Steps as m;
-ghost use Rattle.c_meaning.specs.Steps.{do_statement};
-ghost use Rattle.c_stepper.specs.Stores.{Stores, byte_stored, address_stored, without_one, Frees, freed_of};
+ghost use Rattle.c_meaning.specs.Steps.{do_statement, after_byte};
+ghost use Rattle.c_evaluation.specs.Stores.{Stores, byte_stored, address_stored, without_one, Frees, freed_of};
 ghost use Rattle.c_stepper.specs.Spots.{list_in, todo_at};
-ghost use Rattle.c_stepper.specs.Scopes.{view_at, HasRoom};
-ghost use Rattle.c_stepper.specs.Runners.{state_of, runner_view, body_at, text_at, text_of, first_of, FitsFrame, Acts};
-ghost use Rattle.c_meaning.specs.Steps.{after_byte};
+ghost use Rattle.c_evaluation.specs.Scopes.{view_at, HasRoom};
+ghost use Rattle.c_stepper.specs.Runners.{state_of, runner_view, body_at, text_at, text_of, first_of, FitsFrame, Stays, Acts};
 
-use crate::halt::Halt;
 use crate::label::find_in;
-use crate::scope::Scope;
 use crate::spot::Spot;
-use crate::store::{Store, assigned, freed, got, malloced, put, test};
 use c_cells::Path;
 use c_cells::fresh::fresh_block;
 use c_cells::memory::Memory;
+use c_evaluation::halt::Halt;
+use c_evaluation::scope::Scope;
+use c_evaluation::store::{Store, assigned, freed, got, malloced, put, test};
 use c_meaning::StuckKind;
 use c_tree::expr::{CExpr, CPlace};
 use c_tree::program::{CProgram, CVariable};
@@ -31,6 +30,10 @@ pub enum Done {
     Going,
     /// It wrote a byte.
     Wrote(u8),
+    /// It entered a function that has a number at its name's end.
+    Entered,
+    /// `main` ended with a status.
+    Ended(u8),
 }
 
 /// Where the answer of a call goes: nowhere, or to a place of a type, which may be an array.
@@ -92,7 +95,7 @@ pub fn written_text<'a>(program: &'a CProgram, function: Option<usize>) -> Text<
 }
 
 impl Runner {
-    fn scope<'a>(&'a self, program: &'a CProgram) -> Scope<'a>
+    pub fn scope<'a>(&'a self, program: &'a CProgram) -> Scope<'a>
         requires { FitsFrame program.now self.now.frame }
         ensures view { view_at result ≡ runner_view program.now self.now }
         ensures room { HasRoom result }
@@ -139,12 +142,13 @@ impl Runner {
         got(&scope, place, byte)
     }
 
-    fn assign(&mut self, program: &CProgram, place: &CPlace, e: &CExpr) -> Result<Done, Halt>
+    pub fn assign(&mut self, program: &CProgram, place: &CPlace, e: &CExpr) -> Result<Done, Halt>
         requires fits { FitsFrame program.now self.old.frame }
         requires small { self.old.frame.spot.at + 1 < 2 ^ 64 }
-        ensures { (input output calls : List ℕ) → Acts program.now self.new input output calls result
+        ensures act { (input output calls : List ℕ) → Acts program.now self.new input output calls result
             (do_statement program.now (runner_view program.now self.old) (state_of program.now self.old input output calls)
             (todo_at (body_at program.now self.old.frame) self.old.frame.spot.outer.items (self.old.frame.spot.at + 1)) (t.Assign place.now e.now)) }
+        ensures stays { Stays self.old self.new }
     {
         let Store { number, path, tree } = self.assignment(program, place, e)?;
         self.memory.store(number, path.as_slice(), tree)?;
@@ -152,7 +156,7 @@ impl Runner {
         Ok(Done::Going)
     }
 
-    fn get_char(
+    pub fn get_char(
         &mut self,
         program: &CProgram,
         place: &CPlace,
@@ -160,9 +164,11 @@ impl Runner {
     ) -> Result<Done, Halt>
         requires fits { FitsFrame program.now self.old.frame }
         requires small { self.old.frame.spot.at + 1 < 2 ^ 64 }
-        ensures { (input output calls : List ℕ) → byte ≡ first_of input → Acts program.now self.new (after_byte input) output calls result
+        ensures act { (input output calls : List ℕ) → byte ≡ first_of input → Acts program.now self.new (after_byte input) output calls result
             (do_statement program.now (runner_view program.now self.old) (state_of program.now self.old input output calls)
             (todo_at (body_at program.now self.old.frame) self.old.frame.spot.outer.items (self.old.frame.spot.at + 1)) (t.GetChar place.now)) }
+        ensures stays { Stays self.old self.new }
+        ensures going { IfOk result (λ done. done ≡ Done.Going) }
     {
         let Store { number, path, tree } = self.reading(program, place, byte)?;
         self.memory.store(number, path.as_slice(), tree)?;
@@ -170,25 +176,32 @@ impl Runner {
         Ok(Done::Going)
     }
 
-    fn put_char(&mut self, program: &CProgram, e: &CExpr) -> Result<Done, Halt>
+    pub fn put_char(&mut self, program: &CProgram, e: &CExpr) -> Result<Done, Halt>
         requires fits { FitsFrame program.now self.old.frame }
         requires small { self.old.frame.spot.at + 1 < 2 ^ 64 }
-        ensures { (input output calls : List ℕ) → Acts program.now self.new input output calls result
+        ensures act { (input output calls : List ℕ) → Acts program.now self.new input output calls result
             (do_statement program.now (runner_view program.now self.old) (state_of program.now self.old input output calls)
             (todo_at (body_at program.now self.old.frame) self.old.frame.spot.outer.items (self.old.frame.spot.at + 1)) (t.PutChar e.now)) }
+        ensures stays { Stays self.old self.new }
     {
         let byte = put(&self.scope(program), e)?;
         self.frame.spot.at += 1;
         Ok(Done::Wrote(byte))
     }
 
-    fn choose(&mut self, program: &CProgram, e: &CExpr, body: &[CStatement]) -> Result<Done, Halt>
+    pub fn choose(
+        &mut self,
+        program: &CProgram,
+        e: &CExpr,
+        body: &[CStatement],
+    ) -> Result<Done, Halt>
         requires fits { FitsFrame program.now self.old.frame }
         requires small { self.old.frame.spot.at + 1 < 2 ^ 64 }
         requires here { slice_get (list_in (body_at program.now self.old.frame) self.old.frame.spot.outer.items) self.old.frame.spot.at ≡ Some (t.If e.now (body_of body.now)) }
-        ensures { (input output calls : List ℕ) → Acts program.now self.new input output calls result
+        ensures act { (input output calls : List ℕ) → Acts program.now self.new input output calls result
             (do_statement program.now (runner_view program.now self.old) (state_of program.now self.old input output calls)
             (todo_at (body_at program.now self.old.frame) self.old.frame.spot.outer.items (self.old.frame.spot.at + 1)) (t.If e.now (body_of body.now))) }
+        ensures stays { Stays self.old self.new }
     {
         let chosen = test(&self.scope(program), e)?;
         if chosen {
@@ -199,7 +212,7 @@ impl Runner {
         Ok(Done::Going)
     }
 
-    fn choose_between(
+    pub fn choose_between(
         &mut self,
         program: &CProgram,
         e: &CExpr,
@@ -208,22 +221,24 @@ impl Runner {
     ) -> Result<Done, Halt>
         requires fits { FitsFrame program.now self.old.frame }
         requires here { slice_get (list_in (body_at program.now self.old.frame) self.old.frame.spot.outer.items) self.old.frame.spot.at ≡ Some (t.IfElse e.now (body_of body.now) (body_of other.now)) }
-        ensures { (input output calls : List ℕ) → Acts program.now self.new input output calls result
+        ensures act { (input output calls : List ℕ) → Acts program.now self.new input output calls result
             (do_statement program.now (runner_view program.now self.old) (state_of program.now self.old input output calls)
             (todo_at (body_at program.now self.old.frame) self.old.frame.spot.outer.items (self.old.frame.spot.at + 1)) (t.IfElse e.now (body_of body.now) (body_of other.now))) }
+        ensures stays { Stays self.old self.new }
     {
         let chosen = test(&self.scope(program), e)?;
         self.frame.spot.enter(!chosen)?;
         Ok(Done::Going)
     }
 
-    fn turn(&mut self, program: &CProgram, e: &CExpr, body: &[CStatement]) -> Result<Done, Halt>
+    pub fn turn(&mut self, program: &CProgram, e: &CExpr, body: &[CStatement]) -> Result<Done, Halt>
         requires fits { FitsFrame program.now self.old.frame }
         requires small { self.old.frame.spot.at + 1 < 2 ^ 64 }
         requires here { slice_get (list_in (body_at program.now self.old.frame) self.old.frame.spot.outer.items) self.old.frame.spot.at ≡ Some (t.While e.now (body_of body.now)) }
-        ensures { (input output calls : List ℕ) → Acts program.now self.new input output calls result
+        ensures act { (input output calls : List ℕ) → Acts program.now self.new input output calls result
             (do_statement program.now (runner_view program.now self.old) (state_of program.now self.old input output calls)
             (todo_at (body_at program.now self.old.frame) self.old.frame.spot.outer.items (self.old.frame.spot.at + 1)) (t.While e.now (body_of body.now))) }
+        ensures stays { Stays self.old self.new }
     {
         let chosen = test(&self.scope(program), e)?;
         if chosen {
@@ -236,21 +251,23 @@ impl Runner {
 
     /// A label is passed.
     #[tactic(auto, unfolding(c_meaning::specs::Steps::do_statement, c_meaning::specs::Steps::to_do))]
-    fn pass(&mut self, program: &CProgram, label: &[u8]) -> Result<Done, Halt>
+    pub fn pass(&mut self, program: &CProgram, label: &[u8]) -> Result<Done, Halt>
         requires small { self.old.frame.spot.at + 1 < 2 ^ 64 }
-        ensures { (input output calls : List ℕ) → Acts program.now self.new input output calls result
+        ensures act { (input output calls : List ℕ) → Acts program.now self.new input output calls result
             (do_statement program.now (runner_view program.now self.old) (state_of program.now self.old input output calls)
             (todo_at (body_at program.now self.old.frame) self.old.frame.spot.outer.items (self.old.frame.spot.at + 1)) (t.Label label.now)) }
+        ensures stays { Stays self.old self.new }
     {
         self.frame.spot.at += 1;
         Ok(Done::Going)
     }
 
     /// The function goes on at a label of its text.
-    fn jump(&mut self, program: &CProgram, label: &[u8]) -> Result<Done, Halt>
-        ensures { (input output calls : List ℕ) → Acts program.now self.new input output calls result
+    pub fn jump(&mut self, program: &CProgram, label: &[u8]) -> Result<Done, Halt>
+        ensures act { (input output calls : List ℕ) → Acts program.now self.new input output calls result
             (do_statement program.now (runner_view program.now self.old) (state_of program.now self.old input output calls)
             (todo_at (body_at program.now self.old.frame) self.old.frame.spot.outer.items (self.old.frame.spot.at + 1)) (t.Goto label.now)) }
+        ensures stays { Stays self.old self.new }
     {
         self.frame.spot.outer.clear();
         let text = written_text(program, self.frame.function);
@@ -277,12 +294,13 @@ impl Runner {
         malloced(&scope, place, of)
     }
 
-    fn malloc(&mut self, program: &CProgram, place: &CPlace, of: &CType) -> Result<Done, Halt>
+    pub fn malloc(&mut self, program: &CProgram, place: &CPlace, of: &CType) -> Result<Done, Halt>
         requires fits { FitsFrame program.now self.old.frame }
         requires small { self.old.frame.spot.at + 1 < 2 ^ 64 }
-        ensures { (input output calls : List ℕ) → Acts program.now self.new input output calls result
+        ensures act { (input output calls : List ℕ) → Acts program.now self.new input output calls result
             (do_statement program.now (runner_view program.now self.old) (state_of program.now self.old input output calls)
             (todo_at (body_at program.now self.old.frame) self.old.frame.spot.outer.items (self.old.frame.spot.at + 1)) (t.Malloc place.now of.now)) }
+        ensures stays { Stays self.old self.new }
     {
         let declared = program.declarations.as_slice();
         let block = fresh_block(self.alloc, false, true, declared, of)?;
@@ -303,12 +321,13 @@ impl Runner {
         freed(&scope, e)
     }
 
-    fn free(&mut self, program: &CProgram, e: &CExpr) -> Result<Done, Halt>
+    pub fn free(&mut self, program: &CProgram, e: &CExpr) -> Result<Done, Halt>
         requires fits { FitsFrame program.now self.old.frame }
         requires small { self.old.frame.spot.at + 1 < 2 ^ 64 }
-        ensures { (input output calls : List ℕ) → Acts program.now self.new input output calls result
+        ensures act { (input output calls : List ℕ) → Acts program.now self.new input output calls result
             (do_statement program.now (runner_view program.now self.old) (state_of program.now self.old input output calls)
             (todo_at (body_at program.now self.old.frame) self.old.frame.spot.outer.items (self.old.frame.spot.at + 1)) (t.Free e.now)) }
+        ensures stays { Stays self.old self.new }
     {
         let which = self.freeing(program, e)?;
         forget(&mut self.memory, which);

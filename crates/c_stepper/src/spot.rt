@@ -5,7 +5,7 @@ ghost use Rattle.std.specs.Prelude.{◌+◌, IfSome, ◌≡◌, ◌<◌, ◌⊎�
 ghost use Rattle.c_stepper.specs.Spots.{list_in, branch_of, after_of, todo_of};
 
 use c_tree::statement::{CStatement, CStatementNode};
-use std::alloc::AllocError;
+use std::alloc::{AllocError, Global};
 
 /// A statement that the function is inside of: its place in its list, and whether in its second branch.
 #[derive(Clone, Copy, Debug, PartialEq, Eq)]
@@ -68,6 +68,16 @@ pub struct Spot {
 }
 
 impl Spot {
+    /// The first statement.
+    pub fn start(alloc: Global) -> Spot
+        ensures { (result.outer.items ≡ []) × (result.at ≡ 0) }
+    {
+        Spot {
+            outer: Vec::new(alloc),
+            at: 0,
+        }
+    }
+
     /// Leaves each list that is done.
     #[tactic(auto, using(crate::proofs::Todo::todo_done))]
     pub fn settle(&mut self, body: &[CStatement])

@@ -13,8 +13,8 @@ use Rattle.c_meaning.specs.Steps.{assign}
 use Rattle.c_stepper.proofs.Acting.{stops_store, refused, stored, stored_none}
 use Rattle.c_stepper.proofs.runner.Runner.assign.Goals as goal
 
-pub returns-in_err-number : goal.returns-in_err-number
-returns-in_err-number c = λ input output calls.
+pub returns-in_err-number-clause-act : goal.returns-in_err-number-clause-act
+returns-in_err-number-clause-act c = λ input output calls.
     let p = c.args.program.now in
     let old = c.args.self.now in
     let v : View = runner_view p old in
@@ -24,8 +24,8 @@ returns-in_err-number c = λ input output calls.
     let e = c.in_err-number.field-0.0 in
     stops_store old.memory p old input output calls e c.from_residual.result a (do_statement p v st rest (t.Assign c.args.place.now c.args.e.now)) c.from_residual.ensures.1 c.in_err-number.ensures (λ kind h. stored_none p v st rest c.args.place.now c.args.e.now kind h)
 
-pub returns-in_err-store : goal.returns-in_err-store
-returns-in_err-store c = λ input output calls.
+pub returns-in_err-store-clause-act : goal.returns-in_err-store-clause-act
+returns-in_err-store-clause-act c = λ input output calls.
     let p = c.args.program.now in
     let old = c.args.self.now in
     let v : View = runner_view p old in
@@ -37,9 +37,9 @@ returns-in_err-store c = λ input output calls.
     let bad : a ≡ Bad kind = sym c.in_ok-number.ensures ∙ ap (λ q. store old.memory c.in_ok-number.field-0.number q c.in_ok-number.field-0.tree) (sym path) ∙ c.in_err-store.ensures.refused in
     refused p (record old { memory = c.store.new.self }) input output calls kind c.from_residual-in_err-store.result (do_statement p v st rest (t.Assign c.args.place.now c.args.e.now)) c.from_residual-in_err-store.ensures.1 (stored_none p v st rest c.args.place.now c.args.e.now kind bad)
 
-pub returns : goal.returns
+pub returns-clause-act : goal.returns-clause-act
 unfolding to_do
-returns c = λ input output calls.
+returns-clause-act c = λ input output calls.
     let p = c.args.program.now in
     let old = c.args.self.now in
     let v : View = runner_view p old in

@@ -6,17 +6,17 @@ use Rattle.c_meaning.specs.Evaluate.{View}
 use Rattle.c_meaning.specs.States.{State}
 use Rattle.c_meaning.specs.Todo.{onto}
 use Rattle.c_meaning.specs.Steps.{Onward, do_statement, to_do}
-use Rattle.c_stepper.specs.Halts.{Tells}
+use Rattle.c_evaluation.specs.Halts.{Tells}
 use Rattle.c_stepper.specs.Spots.{todo_at, todo_of}
-use Rattle.c_stepper.specs.Stores.{chosen}
+use Rattle.c_evaluation.specs.Stores.{chosen}
 use Rattle.c_stepper.specs.Runners.{state_of, runner_view, body_at}
 use Rattle.c_stepper.proofs.Acting.{stops, go, go_none}
 use Rattle.c_stepper.proofs.Todo.{enter_if}
 use Rattle.c_stepper.proofs.runner.Runner.choose.Goals as goal
 
-pub returns-in_err-chosen : goal.returns-in_err-chosen
+pub returns-in_err-chosen-clause-act : goal.returns-in_err-chosen-clause-act
 unfolding do_statement
-returns-in_err-chosen c = λ input output calls.
+returns-in_err-chosen-clause-act c = λ input output calls.
     let p = c.args.program.now in
     let old = c.args.self.now in
     let v : View = runner_view p old in
@@ -30,9 +30,9 @@ returns-in_err-chosen c = λ input output calls.
     let told = subst (λ w. Tells (λ (b : Bool). b) (Err e) (chosen w test)) c.scope.ensures.view c.in_err-chosen.ensures in
     stops (λ (b : Bool). b) p old input output calls e c.from_residual.result (chosen v test) (do_statement p v st rest (t.If test (body_of c.args.body.now))) c.from_residual.ensures.1 told (λ kind h. go_none p v st rest test taken other kind h)
 
-pub returns-in_ok-enter : goal.returns-in_ok-enter
+pub returns-in_ok-enter-clause-act : goal.returns-in_ok-enter-clause-act
 unfolding do_statement to_do
-returns-in_ok-enter c = λ input output calls.
+returns-in_ok-enter-clause-act c = λ input output calls.
     let p = c.args.program.now in
     let old = c.args.self.now in
     let v : View = runner_view p old in
@@ -47,9 +47,9 @@ returns-in_ok-enter c = λ input output calls.
     let todo : todo_of (body_at p old.frame) spot ≡ taken = (λ i. todo_at (body_at p old.frame) (c.in_ok-enter.ensures.0 i) (c.in_ok-enter.ensures.1 i)) ∙ enter_if (body_at p old.frame) old.frame.spot.outer.items old.frame.spot.at test body body c.requires.here in
     ap (λ (todo : List Statement). Onward (to_do st todo)) todo ∙ sym (go p v st rest test taken other true told)
 
-pub returns-else-chosen : goal.returns-else-chosen
+pub returns-else-chosen-clause-act : goal.returns-else-chosen-clause-act
 unfolding do_statement to_do
-returns-else-chosen c = λ input output calls.
+returns-else-chosen-clause-act c = λ input output calls.
     let p = c.args.program.now in
     let old = c.args.self.now in
     let v : View = runner_view p old in

@@ -6,18 +6,18 @@ use Rattle.c_meaning.specs.Evaluate.{View}
 use Rattle.c_meaning.specs.States.{State}
 use Rattle.c_meaning.specs.Todo.{onto}
 use Rattle.c_meaning.specs.Steps.{Onward, do_statement, to_do}
-use Rattle.c_stepper.specs.Halts.{Tells}
+use Rattle.c_evaluation.specs.Halts.{Tells}
 use Rattle.c_stepper.specs.Spots.{todo_at, todo_of}
-use Rattle.c_stepper.specs.Stores.{chosen}
+use Rattle.c_evaluation.specs.Stores.{chosen}
 use Rattle.c_stepper.specs.Runners.{state_of, runner_view, body_at}
 use Rattle.c_stepper.proofs.Acting.{stops, go, go_none}
 use Rattle.std.specs.Prelude.{if◌then◌else◌}
 use Rattle.c_stepper.proofs.Todo.{enter_either}
 use Rattle.c_stepper.proofs.runner.Runner.choose_between.Goals as goal
 
-pub returns-in_err-chosen : goal.returns-in_err-chosen
+pub returns-in_err-chosen-clause-act : goal.returns-in_err-chosen-clause-act
 unfolding do_statement
-returns-in_err-chosen c = λ input output calls.
+returns-in_err-chosen-clause-act c = λ input output calls.
     let p = c.args.program.now in
     let old = c.args.self.now in
     let v : View = runner_view p old in
@@ -32,9 +32,9 @@ returns-in_err-chosen c = λ input output calls.
     let told = subst (λ w. Tells (λ (b : Bool). b) (Err e) (chosen w test)) c.scope.ensures.view c.in_err-chosen.ensures in
     stops (λ (b : Bool). b) p old input output calls e c.from_residual.result (chosen v test) (do_statement p v st rest (t.IfElse test body second)) c.from_residual.ensures.1 told (λ kind h. go_none p v st rest test taken other kind h)
 
-pub returns : goal.returns
+pub returns-clause-act : goal.returns-clause-act
 unfolding do_statement to_do
-returns c = λ input output calls.
+returns-clause-act c = λ input output calls.
     let p = c.args.program.now in
     let old = c.args.self.now in
     let v : View = runner_view p old in

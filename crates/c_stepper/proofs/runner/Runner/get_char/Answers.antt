@@ -5,17 +5,17 @@ use Rattle.c_meaning.specs.Answer.{Got}
 use Rattle.c_meaning.specs.Evaluate.{View}
 use Rattle.c_meaning.specs.States.{State}
 use Rattle.c_meaning.specs.Steps.{do_statement, to_do}
+use Rattle.c_meaning.specs.Steps.{after_byte}
 use Rattle.c_stepper.specs.Spots.{todo_at}
 use Rattle.c_stepper.specs.Runners.{state_of, runner_view, body_at}
 use Rattle.c_meaning.specs.Answer.{Bad}
 use Rattle.c_meaning.specs.States.{store}
-use Rattle.c_meaning.specs.Steps.{after_byte}
-use Rattle.c_stepper.specs.Stores.{byte_stored}
+use Rattle.c_evaluation.specs.Stores.{byte_stored}
 use Rattle.c_stepper.proofs.Acting.{stops_store, refused, read_in, read_none}
 use Rattle.c_stepper.proofs.runner.Runner.get_char.Goals as goal
 
-pub returns-in_err-number : goal.returns-in_err-number
-returns-in_err-number c = λ input output calls is.
+pub returns-in_err-number-clause-act : goal.returns-in_err-number-clause-act
+returns-in_err-number-clause-act c = λ input output calls is.
     let p = c.args.program.now in
     let old = c.args.self.now in
     let v : View = runner_view p old in
@@ -25,8 +25,8 @@ returns-in_err-number c = λ input output calls is.
     let e = c.in_err-number.field-0.0 in
     stops_store old.memory p old (after_byte input) output calls e c.from_residual.result a (do_statement p v st rest (t.GetChar c.args.place.now)) c.from_residual.ensures.1 c.in_err-number.ensures (λ kind h. read_none p v st rest c.args.place.now kind c.args.byte is h)
 
-pub returns-in_err-store : goal.returns-in_err-store
-returns-in_err-store c = λ input output calls is.
+pub returns-in_err-store-clause-act : goal.returns-in_err-store-clause-act
+returns-in_err-store-clause-act c = λ input output calls is.
     let p = c.args.program.now in
     let old = c.args.self.now in
     let v : View = runner_view p old in
@@ -38,9 +38,9 @@ returns-in_err-store c = λ input output calls is.
     let bad : a ≡ Bad kind = sym c.in_ok-number.ensures ∙ ap (λ q. store old.memory c.in_ok-number.field-0.number q c.in_ok-number.field-0.tree) (sym path) ∙ c.in_err-store.ensures.refused in
     refused p (record old { memory = c.store.new.self }) (after_byte input) output calls kind c.from_residual-in_err-store.result (do_statement p v st rest (t.GetChar c.args.place.now)) c.from_residual-in_err-store.ensures.1 (read_none p v st rest c.args.place.now kind c.args.byte is bad)
 
-pub returns : goal.returns
+pub returns-clause-act : goal.returns-clause-act
 unfolding to_do
-returns c = λ input output calls is.
+returns-clause-act c = λ input output calls is.
     let p = c.args.program.now in
     let old = c.args.self.now in
     let v : View = runner_view p old in

@@ -14,9 +14,9 @@ use Rattle.c_stepper.specs.Labels.{path_of, levels, last}
 use Rattle.c_stepper.proofs.LabelPaths.{jump_to, jump_none}
 use Rattle.c_stepper.proofs.runner.Runner.jump.Goals as goal
 
-pub returns-in-Some : goal.returns-in-Some
+pub returns-in-Some-clause-act : goal.returns-in-Some-clause-act
 unfolding do_statement go_on next or_bad ◌>>=◌ to_do
-returns-in-Some c = λ input output calls.
+returns-in-Some-clause-act c = λ input output calls.
     let p = c.args.program.now in
     let old = c.args.self.now in
     let st : State = state_of p old input output calls in
@@ -29,9 +29,9 @@ returns-in-Some c = λ input output calls.
     let way : from_label_of l body ≡ Some (todo_at body c.find_in.new.outer.items at) = jump_to l body at found ∙ ap (λ o. Some (todo_at body o at)) (sym outer) in
     sym (ap (λ o. go_on st (or_bad k.UnknownName o)) way)
 
-pub returns-in-None : goal.returns-in-None
+pub returns-in-None-clause-act : goal.returns-in-None-clause-act
 unfolding do_statement go_on next or_bad ◌>>=◌ to_do
-returns-in-None c = λ input output calls.
+returns-in-None-clause-act c = λ input output calls.
     let p = c.args.program.now in
     let old = c.args.self.now in
     let st : State = state_of p old input output calls in

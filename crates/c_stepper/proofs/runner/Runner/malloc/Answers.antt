@@ -12,12 +12,12 @@ use Rattle.c_meaning.specs.Answer.{Bad}
 use Rattle.c_meaning.specs.Cells.{Block, Blocks}
 use Rattle.c_meaning.specs.Fresh.{fresh}
 use Rattle.c_meaning.specs.States.{store}
-use Rattle.c_stepper.specs.Stores.{address_stored}
+use Rattle.c_evaluation.specs.Stores.{address_stored}
 use Rattle.c_stepper.proofs.Acting.{stops_store, refused, made, made_none}
 use Rattle.c_stepper.proofs.runner.Runner.malloc.Goals as goal
 
-pub returns-in_err-number : goal.returns-in_err-number
-returns-in_err-number c = λ input output calls.
+pub returns-in_err-number-clause-act : goal.returns-in_err-number-clause-act
+returns-in_err-number-clause-act c = λ input output calls.
     let p = c.args.program.now in
     let old = c.args.self.now in
     let v : View = runner_view p old in
@@ -27,8 +27,8 @@ returns-in_err-number c = λ input output calls.
     let e = c.in_err-number.field-0.0 in
     stops_store old.memory p old input output calls e c.from_residual-in_err-number.result a (do_statement p v st rest (t.Malloc c.args.place.now c.args.of.now)) c.from_residual-in_err-number.ensures.1 c.in_err-number.ensures (λ kind h. made_none p v st rest c.args.place.now c.args.of.now kind h)
 
-pub returns-in_err-store : goal.returns-in_err-store
-returns-in_err-store c = λ input output calls.
+pub returns-in_err-store-clause-act : goal.returns-in_err-store-clause-act
+returns-in_err-store-clause-act c = λ input output calls.
     let p = c.args.program.now in
     let old = c.args.self.now in
     let v : View = runner_view p old in
@@ -40,9 +40,9 @@ returns-in_err-store c = λ input output calls.
     let bad : a ≡ Bad kind = sym c.in_ok-number.ensures ∙ ap (λ q. store old.memory c.in_ok-number.field-0.number q c.in_ok-number.field-0.tree) (sym path) ∙ c.in_err-store.ensures.refused in
     refused p (record old { memory = c.store.new.self }) input output calls kind c.from_residual-in_err-store.result (do_statement p v st rest (t.Malloc c.args.place.now c.args.of.now)) c.from_residual-in_err-store.ensures.1 (made_none p v st rest c.args.place.now c.args.of.now kind bad)
 
-pub returns : goal.returns
+pub returns-clause-act : goal.returns-clause-act
 unfolding to_do
-returns c = λ input output calls.
+returns-clause-act c = λ input output calls.
     let p = c.args.program.now in
     let old = c.args.self.now in
     let v : View = runner_view p old in

@@ -5,15 +5,15 @@ use Rattle.c_meaning.specs.Answer.{Got}
 use Rattle.c_meaning.specs.Evaluate.{View}
 use Rattle.c_meaning.specs.States.{State}
 use Rattle.c_meaning.specs.Steps.{do_statement, to_do}
-use Rattle.c_stepper.specs.Halts.{Tells}
+use Rattle.c_evaluation.specs.Halts.{Tells}
 use Rattle.c_stepper.specs.Spots.{todo_at}
-use Rattle.c_stepper.specs.Stores.{byte_put}
+use Rattle.c_evaluation.specs.Stores.{byte_put}
 use Rattle.c_stepper.specs.Runners.{state_of, runner_view, body_at}
 use Rattle.c_stepper.proofs.Acting.{stops, wrote, wrote_none}
 use Rattle.c_stepper.proofs.runner.Runner.put_char.Goals as goal
 
-pub returns-in_err-byte : goal.returns-in_err-byte
-returns-in_err-byte c = λ input output calls.
+pub returns-in_err-byte-clause-act : goal.returns-in_err-byte-clause-act
+returns-in_err-byte-clause-act c = λ input output calls.
     let p = c.args.program.now in
     let old = c.args.self.now in
     let v : View = runner_view p old in
@@ -24,9 +24,9 @@ returns-in_err-byte c = λ input output calls.
     let told = subst (λ w. Tells (λ (n : ℕ). n) (Err e) (byte_put w a)) c.scope.ensures.view c.in_err-byte.ensures in
     stops (λ (n : ℕ). n) p old input output calls e c.from_residual.result (byte_put v a) (do_statement p v st rest (t.PutChar a)) c.from_residual.ensures.1 told (λ kind h. wrote_none p v st rest a kind h)
 
-pub returns : goal.returns
+pub returns-clause-act : goal.returns-clause-act
 unfolding to_do
-returns c = λ input output calls.
+returns-clause-act c = λ input output calls.
     let p = c.args.program.now in
     let old = c.args.self.now in
     let v : View = runner_view p old in

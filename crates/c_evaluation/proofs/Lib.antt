@@ -1,0 +1,12 @@
+pub mod Signatures
+pub mod Leaves
+pub mod Exact
+pub mod Binary
+pub mod Names
+pub mod Places
+pub mod Reading
+pub mod Parts
+pub mod Casts
+pub mod Evaluations
+pub mod Taking
+pub mod Freeing

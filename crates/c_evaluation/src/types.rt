@@ -1,0 +1,325 @@
+//! Types of places and of values.
+ghost use Rattle.std.specs.Prelude.{◌≡◌, ◌+◌, map, IfOk, IfErr};
+ghost use Rattle.c_tree.specs.Tree as t;
+ghost use Rattle.c_meaning.specs.Types as m;
+ghost use Rattle.c_meaning.specs.States.{variable_type};
+ghost use Rattle.c_evaluation.specs.Types.{object_of, layer_of, value_type_of, signature_of, typedef_signature, target_of, is_byte};
+ghost use Rattle.std.specs.Option.{option_copied, option_map};
+
+use crate::halt::Halt;
+use c_tree::Name;
+use c_tree::program::{CDeclaration, CTypedef, CVariable};
+use c_tree::types::{CType, CTypeNode};
+
+/// Where a type comes from.
+#[derive(Clone, Copy)]
+pub enum Base<'a> {
+    Int,
+    Word,
+    VoidPointer,
+    Struct(&'a Name),
+    Written(&'a CType),
+}
+
+/// A type: so many pointers around another.
+#[derive(Clone, Copy)]
+pub struct Object<'a> {
+    pub pointers: usize,
+    pub base: Base<'a>,
+}
+
+/// The outermost part of a type.
+#[derive(Clone, Copy)]
+pub enum Layer<'a> {
+    Int,
+    Word,
+    Byte,
+    VoidPointer,
+    Struct(&'a Name),
+    Named(&'a Name),
+    Pointer(Object<'a>),
+}
+
+/// The type of a place. An array has its length.
+#[derive(Clone, Copy)]
+pub enum PlaceType<'a> {
+    Plain(Object<'a>),
+    Array(u64, Object<'a>),
+}
+
+/// What a function takes and gives.
+#[derive(Clone, Copy)]
+pub struct Signature<'a> {
+    pub result: &'a Option<CType>,
+    pub parameters: &'a [CVariable],
+}
+
+/// The type of a value: `NULL` and the names of functions fit several.
+#[derive(Clone, Copy)]
+pub enum ValueType<'a> {
+    Of(Object<'a>),
+    AnyPointer,
+    Routine(Signature<'a>),
+}
+
+impl<'a> Object<'a> {
+    pub fn int() -> Object<'a>
+        ensures { object_of result ≡ t.Int }
+    {
+        Object {
+            pointers: 0,
+            base: Base::Int,
+        }
+    }
+
+    pub fn word() -> Object<'a>
+        ensures { object_of result ≡ t.Word }
+    {
+        Object {
+            pointers: 0,
+            base: Base::Word,
+        }
+    }
+
+    /// The type that is written so.
+    pub fn written(of: &'a CType) -> Object<'a>
+        ensures { object_of result ≡ of.now }
+    {
+        Object {
+            pointers: 0,
+            base: Base::Written(of),
+        }
+    }
+
+    /// The type of pointers to this one.
+    pub fn pointer(self) -> Result<Object<'a>, Halt>
+        ensures pointer { IfOk result (λ o. object_of o ≡ t.Pointer (object_of self.entry)) }
+        ensures memory { IfErr result (λ halt. halt ≡ Halt.Memory) }
+    {
+        match self.pointers.checked_add(1) {
+            Some(pointers) => Ok(Object {
+                pointers,
+                base: self.base,
+            }),
+            None => Err(Halt::Memory),
+        }
+    }
+
+    /// To what pointers of the type lead, where it is a pointer to another.
+    pub fn target(self) -> Option<Object<'a>>
+        ensures { option_map object_of result ≡ target_of (object_of self.entry) }
+    {
+        match self.layer() {
+            Layer::Pointer(to) => Some(to),
+            _ => None,
+        }
+    }
+
+    /// Whether it is `unsigned char`.
+    pub fn is_byte(self) -> bool
+        ensures { result ≡ is_byte (object_of self.entry) }
+    {
+        match self.layer() {
+            Layer::Byte => true,
+            _ => false,
+        }
+    }
+
+    pub fn layer(self) -> Layer<'a>
+        ensures { layer_of result ≡ object_of self.entry }
+    {
+        if self.pointers > 0 {
+            return Layer::Pointer(Object {
+                pointers: self.pointers - 1,
+                base: self.base,
+            });
+        }
+        match self.base {
+            Base::Int => Layer::Int,
+            Base::Word => Layer::Word,
+            Base::VoidPointer => Layer::VoidPointer,
+            Base::Struct(name) => Layer::Struct(name),
+            Base::Written(of) => written_layer(of),
+        }
+    }
+}
+
+fn written_layer<'a>(of: &'a CType) -> Layer<'a>
+    ensures { layer_of result ≡ of.now }
+{
+    match &of.node {
+        CTypeNode::Int => Layer::Int,
+        CTypeNode::Word => Layer::Word,
+        CTypeNode::Byte => Layer::Byte,
+        CTypeNode::VoidPointer => Layer::VoidPointer,
+        CTypeNode::Struct(name) => Layer::Struct(name),
+        CTypeNode::Named(name) => Layer::Named(name),
+        CTypeNode::Pointer(to) => Layer::Pointer(Object::written(to.get())),
+    }
+}
+
+/// Whether two types are one.
+#[tactic(auto, unfolding(c_meaning::specs::Types::type_eq))]
+pub fn same_type(a: Object, b: Object) -> bool
+    ensures { result ≡ m.type_eq (object_of a.entry) (object_of b.entry) }
+{
+    match (a.layer(), b.layer()) {
+        (Layer::Int, Layer::Int) => true,
+        (Layer::Word, Layer::Word) => true,
+        (Layer::Byte, Layer::Byte) => true,
+        (Layer::VoidPointer, Layer::VoidPointer) => true,
+        (Layer::Struct(m), Layer::Struct(n)) => m.as_slice() == n.as_slice(),
+        (Layer::Named(m), Layer::Named(n)) => m.as_slice() == n.as_slice(),
+        (Layer::Pointer(m), Layer::Pointer(n)) => same_type(m, n),
+        _ => false,
+    }
+}
+
+/// Whether two results are one.
+#[tactic(auto, unfolding(c_meaning::specs::Types::result_eq))]
+fn same_result(a: &Option<CType>, b: &Option<CType>) -> bool
+    ensures { result ≡ m.result_eq a.now b.now }
+{
+    match (a, b) {
+        (None, None) => true,
+        (Some(a), Some(b)) => same_type(Object::written(a), Object::written(b)),
+        _ => false,
+    }
+}
+
+/// Whether variables have, one after another, the types of others.
+#[tactic(auto, unfolding(c_meaning::specs::Types::types_eq))]
+fn same_variables(a: &[CVariable], b: &[CVariable]) -> bool
+    ensures { result ≡ m.types_eq (map variable_type a.now) (map variable_type b.now) }
+{
+    let mut left = a;
+    let mut right = b;
+    while let [x, after @ ..] = left {
+        let [y, rest @ ..] = right else {
+            return false;
+        };
+        if !same_type(Object::written(&x.of), Object::written(&y.of)) {
+            return false;
+        }
+        left = after;
+        right = rest;
+    }
+    right.is_empty()
+}
+
+/// Whether variables have, one after another, these types.
+#[tactic(auto, unfolding(c_meaning::specs::Types::types_eq))]
+fn variables_have(a: &[CType], b: &[CVariable]) -> bool
+    ensures { result ≡ m.types_eq a.now (map variable_type b.now) }
+{
+    let mut left = a;
+    let mut right = b;
+    while let [x, after @ ..] = left {
+        let [y, rest @ ..] = right else {
+            return false;
+        };
+        if !same_type(Object::written(x), Object::written(&y.of)) {
+            return false;
+        }
+        left = after;
+        right = rest;
+    }
+    right.is_empty()
+}
+
+#[tactic(auto, unfolding(c_meaning::specs::Types::signature_eq))]
+fn same_signature(a: Signature, b: Signature) -> bool
+    ensures { result ≡ m.signature_eq (signature_of a.entry) (signature_of b.entry) }
+{
+    same_result(a.result, b.result) && same_variables(a.parameters, b.parameters)
+}
+
+/// The signature that a typedef's name stands for.
+#[tactic(auto, unfolding(c_meaning::specs::Types::typedef_of))]
+fn typedef_of<'a>(name: &Name, declared: &'a [CDeclaration]) -> Option<&'a CTypedef>
+    ensures { m.typedef_of name.now declared.now ≡ option_map typedef_signature (option_copied result) }
+{
+    let mut rest = declared;
+    while let [first, after @ ..] = rest {
+        if let CDeclaration::Typedef(found) = first {
+            if name.as_slice() == found.name.as_slice() {
+                return Some(found);
+            }
+        }
+        rest = after;
+    }
+    None
+}
+
+/// Whether a function with the signature has the type that a name stands for.
+#[tactic(auto, unfolding(c_meaning::specs::Types::names_signature, c_meaning::specs::Types::signature_eq))]
+fn names_signature(declared: &[CDeclaration], name: &Name, of: Signature) -> bool
+    ensures { result ≡ m.names_signature (m.typedef_of name.now declared.now) (signature_of of.entry) }
+{
+    match typedef_of(name, declared) {
+        None => false,
+        Some(found) => {
+            same_result(&found.result, of.result)
+                && variables_have(found.parameters.as_slice(), of.parameters)
+        }
+    }
+}
+
+/// Whether `NULL` has the type.
+#[tactic(auto, unfolding(c_meaning::specs::Types::is_pointer))]
+fn is_pointer(of: Object) -> bool
+    ensures { result ≡ m.is_pointer (object_of of.entry) }
+{
+    match of.layer() {
+        Layer::Pointer(_) => true,
+        Layer::VoidPointer => true,
+        Layer::Named(_) => true,
+        _ => false,
+    }
+}
+
+/// Whether a function with the signature has the type.
+#[tactic(auto, unfolding(c_meaning::specs::Types::alike))]
+fn holds_routine(declared: &[CDeclaration], of: Object, routine: Signature) -> bool
+    ensures one { result ≡ m.alike declared.now (value_type_of (ValueType.Of of.entry)) (value_type_of (ValueType.Routine routine.entry)) }
+    ensures other { result ≡ m.alike declared.now (value_type_of (ValueType.Routine routine.entry)) (value_type_of (ValueType.Of of.entry)) }
+{
+    match of.layer() {
+        Layer::Named(name) => names_signature(declared, name, routine),
+        _ => false,
+    }
+}
+
+/// Whether values of two types are alike.
+#[tactic(auto, unfolding(c_meaning::specs::Types::alike))]
+pub fn alike(declared: &[CDeclaration], a: ValueType, b: ValueType) -> bool
+    ensures { result ≡ m.alike declared.now (value_type_of a.entry) (value_type_of b.entry) }
+{
+    match (a, b) {
+        (ValueType::Of(a), ValueType::Of(b)) => same_type(a, b),
+        (ValueType::Of(a), ValueType::AnyPointer) => is_pointer(a),
+        (ValueType::AnyPointer, ValueType::Of(b)) => is_pointer(b),
+        (ValueType::Of(a), ValueType::Routine(r)) => holds_routine(declared, a, r),
+        (ValueType::Routine(r), ValueType::Of(b)) => holds_routine(declared, b, r),
+        (ValueType::Routine(r), ValueType::Routine(s)) => same_signature(r, s),
+        (ValueType::AnyPointer, ValueType::AnyPointer) => true,
+        (ValueType::AnyPointer, ValueType::Routine(_)) => true,
+        (ValueType::Routine(_), ValueType::AnyPointer) => true,
+    }
+}
+
+/// Whether the value is a pointer to an object.
+#[tactic(auto, unfolding(c_meaning::specs::Types::points_to_object))]
+pub fn points_to_object(of: ValueType) -> bool
+    ensures { result ≡ m.points_to_object (value_type_of of.entry) }
+{
+    match of {
+        ValueType::Of(of) => match of.layer() {
+            Layer::Pointer(_) => true,
+            Layer::VoidPointer => true,
+            _ => false,
+        },
+        ValueType::AnyPointer => true,
+        ValueType::Routine(_) => false,
+    }
+}

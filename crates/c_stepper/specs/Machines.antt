@@ -1,0 +1,148 @@
+-- The states for which a machine stands, and what its steps and runs tell.
+use Rattle.std.specs.Prelude.{◌≡◌, ◌≢◌, ◌⊎◌, ℕ, ◌+◌, ◌≤◌, ◌<◌, Bool, true, false, List, [], ◌++◌, length, Option, Some, None}
+use Rattle.c_tree.specs.declared.program.CProgram.{CProgram}
+use Rattle.c_meaning.specs.States.{State}
+use Rattle.c_meaning.specs.Steps.{Next, Onward, Ended, Halted}
+use Rattle.c_meaning.specs.Runs as m
+use Rattle.c_meaning.specs.Runs.{CAnswer, start, CRun}
+use Rattle.p2c_outside.specs.Counts.{Rose}
+use Rattle.p2c_outside.specs.Told.{Gains}
+use Rattle.held_bytes.specs.Written.{GainsPart}
+use Rattle.held_bytes.specs.Held.{bytes_in, Moves}
+use Rattle.c_stepper.specs.Runners.{FitsFrames, state_of}
+use Rattle.c_stepper.specs.declared.machine.Machine.{Machine}
+use Rattle.c_stepper.specs.declared.machine.Stepped.{Stepped}
+use Rattle.c_stepper.specs.declared.machine.Stepped.TheVariants as s
+use Rattle.c_stepper.specs.declared.machine.Ended as e
+use Rattle.c_stepper.specs.declared.machine.Ended.TheVariants as v
+
+-- the state for which a machine stands, where these bytes are left of the input, and these were written and entered
+abbrev pub stood : CProgram → Machine → (left output calls : List ℕ) → State
+stood c m left output calls = state_of c m.runner (bytes_in m.input ++ left) output calls
+
+-- the machine was made for the program
+pub record IsFor (c : CProgram) (m : Machine) : Type 0 where
+  pub frames : m.over ≡ None → FitsFrames c m.runner
+  pub counted : m.calls ≤ m.taken
+  pub few : length m.output.bytes.items < 4096
+
+-- it stands at the start of `main`
+pub record Begins (c : CProgram) (m : Machine) : Type 0 where
+  pub state : (input : List ℕ) → stood c m input [] [] ≡ start c input
+  pub calls : m.calls ≡ 0
+  pub taken : m.taken ≡ 0
+  pub going : m.over ≡ None
+  pub held : m.output.bytes.items ≡ []
+  pub input : m.input.over ≡ false
+
+-- ---- steps
+
+-- the machine goes on in the next state, having put and held what the step writes
+pub record Goes (c : CProgram) (held : List ℕ) (new : Machine) (left' written written' : Option (List ℕ)) (output : List ℕ) (next : Next) : Type 0 where
+  pub left : List ℕ
+  pub added : List ℕ
+  pub calls : List ℕ
+  pub step : next ≡ Onward (stood c new left (output ++ added) calls)
+  pub input : left' ≡ Some left
+  pub count : length calls ≡ new.calls
+  pub put : Moves held new.output.bytes.items written written' added
+
+-- the output at a point of a run
+abbrev pub output_at : Next → List ℕ
+output_at (Onward st) = st.output
+output_at (Ended status output calls) = output
+output_at (Halted kind output) = output
+
+-- what was put is less than what was held, or than that and what the step writes
+abbrev pub Loses : (held : List ℕ) → (written written' : Option (List ℕ)) → (output : List ℕ) → Next → Type 0
+Loses held w w' output next = GainsPart w w' held ⊎ ((added : List ℕ) × (output_at next ≡ output ++ added) × GainsPart w w' (held ++ added))
+
+-- what a step tells, where so many calls were counted and these bytes were held before it
+abbrev pub Steps : CProgram → (held : List ℕ) → (count : ℕ) → (new : Machine) → (left' written written' : Option (List ℕ)) → (output calls : List ℕ) → Stepped → Next → Type 0
+Steps c held count new left' w w' output calls s.Going next = Goes c held new left' w w' output next
+Steps c held count new left' w w' output calls (s.Ended status) next = (next ≡ Ended status output calls) × (new.calls ≡ count) × Gains w w' held
+Steps c held count new left' w w' output calls (s.Stuck kind) next = (next ≡ Halted kind output) × Gains w w' held
+Steps c held count new left' w w' output calls s.InputFault next = Gains w w' held
+Steps c held count new left' w w' output calls s.OutputFault next = Loses held w w' output next
+Steps c held count new left' w w' output calls (s.Memory e) next = Gains w w' held
+
+-- ---- the end of a machine
+
+-- what is held is put, and where that fails the answer says so
+abbrev pub Closes : (held : List ℕ) → (written written' : Option (List ℕ)) → (answer result : Stepped) → Type 0
+Closes held w w' answer result = ((result ≡ answer) × Gains w w' held) ⊎ ((result ≡ s.OutputFault) × GainsPart w w' held)
+
+-- the same machine, but for its output and the answer that comes again
+pub record SameBut (old new : Machine) : Type 0 where
+  pub runner : new.runner ≡ old.runner
+  pub input : new.input ≡ old.input
+  pub calls : new.calls ≡ old.calls
+  pub taken : new.taken ≡ old.taken
+
+-- the sink failed where the answer says so, and else not
+pub record PutFaults (before after : ℕ) (result : Stepped) : Type 0 where
+  pub none : result ≢ s.OutputFault → after ≡ before
+  pub some : result ≡ s.OutputFault → Rose before after
+
+-- the source failed where the answer says so, and else not, but maybe where the sink failed too
+pub record TakeFaults (before after : ℕ) (result : Stepped) : Type 0 where
+  pub none : result ≢ s.InputFault → result ≢ s.OutputFault → after ≡ before
+  pub some : result ≡ s.InputFault → Rose before after
+
+-- an answer but Going comes again
+pub record IsOver (old new : Machine) (result : Stepped) : Type 0 where
+  pub going : result ≡ s.Going → new.over ≡ old.over
+  pub over : result ≢ s.Going → new.over ≡ Some result
+
+-- bytes are written behind those that are held
+abbrev pub Writes : (held held' : List ℕ) → (written written' : Option (List ℕ)) → (added : List ℕ) → Stepped → Type 0
+Writes held held' w w' added s.Going = Moves held held' w w' added
+Writes held held' w w' added (s.Memory e) = Gains w w' held
+Writes held held' w w' added s.OutputFault = GainsPart w w' held ⊎ GainsPart w w' (held ++ added)
+Writes held held' w w' added _ = ⊥
+
+-- ---- runs
+
+-- a point that a run reaches
+pub record Reaches (c : CProgram) (input : List ℕ) (most : ℕ) : Type 0 where
+  pub steps : ℕ
+  pub within : steps ≤ most
+  pub output : List ℕ
+  pub calls : List ℕ
+  pub is : CRun c input steps ≡ m.Going output calls
+
+-- the output that is told of a run
+abbrev pub told : CAnswer → List ℕ
+told (m.Going output calls) = output
+told (m.End output status calls) = output
+told (m.Stuck kind output) = output
+
+-- what was written is less than what a run writes
+pub record CutShort (c : CProgram) (input : List ℕ) (most : ℕ) (written written' : Option (List ℕ)) : Type 0 where
+  pub steps : ℕ
+  pub within : steps ≤ most
+  pub cut : GainsPart written written' (told (CRun c input steps))
+
+abbrev pub Ran : CProgram → (input : List ℕ) → ℕ → (written written' : Option (List ℕ)) → e.Ended → Type 0
+Ran c input steps w w' (v.Status status calls) = (output : List ℕ) × (k : List ℕ) × (CRun c input steps ≡ m.End output status k) × (length k ≡ calls) × Gains w w' output
+Ran c input steps w w' v.Spent = (output : List ℕ) × (k : List ℕ) × (CRun c input steps ≡ m.Going output k) × Gains w w' output
+Ran c input steps w w' (v.Stuck kind) = (output : List ℕ) × (CRun c input steps ≡ m.Stuck kind output) × Gains w w' output
+Ran c input steps w w' v.InputFault = (r : Reaches c input steps) × Gains w w' r.output
+Ran c input steps w w' v.OutputFault = CutShort c input steps w w'
+Ran c input steps w w' (v.Memory e) = (r : Reaches c input steps) × Gains w w' r.output
+
+-- the answer of a run that is over, where so many calls were counted
+abbrev pub ended_by : ℕ → Stepped → e.Ended
+ended_by calls s.Going = v.Spent
+ended_by calls (s.Ended status) = v.Status status calls
+ended_by calls (s.Stuck kind) = v.Stuck kind
+ended_by calls s.InputFault = v.InputFault
+ended_by calls s.OutputFault = v.OutputFault
+ended_by calls (s.Memory error) = v.Memory error
+
+-- source and sink failed where the answer says so, and else not, but maybe the source where the sink failed too
+pub record RunFaults (taken taken' put put' : ℕ) (result : e.Ended) : Type 0 where
+  pub no_input : result ≢ v.InputFault → result ≢ v.OutputFault → taken' ≡ taken
+  pub input : result ≡ v.InputFault → Rose taken taken'
+  pub no_output : result ≢ v.OutputFault → put' ≡ put
+  pub output : result ≡ v.OutputFault → Rose put put'

@@ -1,0 +1,291 @@
+//! Functions that are entered and that end.
+ghost use Rattle.std.specs.Prelude.{◌≡◌, ◌+◌, ◌<◌, ◌^◌, ◌≤◌, ◌++◌, ◌∷◌, [], ℕ, List, IfOk, OnOk, MatchOption, Some, false, length};
+ghost use Rattle.std.specs.Option.{option_map, is_some};
+ghost use Rattle.c_tree.specs.Tree as t;
+ghost use Rattle.c_meaning.specs.Cells.{Blocks};
+ghost use Rattle.c_meaning.specs.Fresh.{fresh_blocks};
+ghost use Rattle.c_meaning.specs.States.{State, without};
+ghost use Rattle.c_meaning.specs.Entries.{number_at_end};
+ghost use Rattle.c_meaning.specs.Runs.{start};
+ghost use Rattle.c_meaning.specs.Steps as m;
+ghost use Rattle.c_meaning.specs.Steps.{Onward, do_statement, names_from};
+ghost use Rattle.c_evaluation.specs.Halts.{Tells};
+ghost use Rattle.c_evaluation.specs.Types.{object_of};
+ghost use Rattle.c_stepper.specs.Spots.{todo_at};
+ghost use Rattle.c_stepper.specs.Runners.{state_of, runner_view, body_at, frame_of, frames_of, target_of as meant, parts_at, variables_at, FitsFrame, FitsFrames, Acts, name_at};
+ghost use Rattle.c_stepper.specs.Calls.{IsEntry, entered_of, entered, entered_state, entry_done};
+ghost use Rattle.c_stepper.specs.Leaving.{given_of, Answers};
+
+use crate::call::{Entry, entered};
+use crate::leave::{Given, answer_stored, forget_variables, put_answer, returned, status_of};
+use crate::names::ends_in_number;
+use crate::runner::{Done, Frame, Runner, Target, written_text};
+use crate::spot::Spot;
+use c_cells::fresh::push_fresh;
+use c_cells::memory::Memory;
+use c_evaluation::halt::Halt;
+use c_evaluation::store::Store;
+use c_evaluation::types::Object;
+use c_tree::expr::{CExpr, CPlace};
+use c_tree::program::CProgram;
+use c_tree::statement::CCallee;
+use std::alloc::{AllocError, Global};
+use std::mem;
+
+/// Whether a call of the function with a number is counted.
+fn is_counted(program: &CProgram, function: usize) -> bool
+    ensures { result ≡ is_some (number_at_end (name_at program.now function)) }
+{
+    match program.functions.get(function) {
+        Some(found) => ends_in_number(found.name.as_slice()),
+        None => false,
+    }
+}
+
+/// What is done by a call.
+fn done_by_call(counted: bool) -> Done
+    ensures { result ≡ entry_done counted }
+{
+    if counted { Done::Entered } else { Done::Going }
+}
+
+/// The result of a function, or of `main`.
+fn result_of(program: &CProgram, function: Option<usize>) -> Option<Object>
+    ensures { option_map object_of result ≡ (parts_at program.now function).result }
+{
+    match function {
+        None => Some(Object::int()),
+        Some(number) => match program.functions.get(number) {
+            Some(found) => match &found.result {
+                Some(of) => Some(Object::written(of)),
+                None => None,
+            },
+            None => None,
+        },
+    }
+}
+
+/// Adds a frame that waits.
+fn push_frame(below: &mut Vec<Frame>, frame: Frame) -> Result<(), AllocError>
+    ensures { OnOk result (below.new.items ≡ below.old.items ++ frame ∷ []) }
+{
+    below.push(frame)?;
+    Ok(())
+}
+
+/// Takes the frame that was added last.
+fn last_frame(below: &mut Vec<Frame>) -> Option<Frame>
+    ensures { MatchOption result ((below.old.items ≡ []) × (below.new.items ≡ [])) (λ last. below.old.items ≡ below.new.items ++ last ∷ []) }
+{
+    below.pop()
+}
+
+impl Runner {
+    /// The runner at the start of `main`.
+    pub fn new(alloc: Global, program: &CProgram) -> Result<Runner, AllocError>
+        ensures state { IfOk result (λ it. (input : List ℕ) → state_of program.now it input [] [] ≡ start program.now input) }
+        ensures fits { IfOk result (FitsFrames program.now) }
+    {
+        let mut memory = Memory::new(alloc);
+        let declared = program.declarations.as_slice();
+        let base = push_fresh(
+            alloc,
+            true,
+            declared,
+            program.globals.as_slice(),
+            &mut memory,
+        )?;
+        let locals = program.main.locals.as_slice();
+        push_fresh(alloc, false, declared, locals, &mut memory)?;
+        let frame = Frame {
+            function: None,
+            reach: program.functions.len(),
+            base,
+            spot: Spot::start(alloc),
+            target: Target::Nowhere,
+        };
+        Ok(Runner {
+            frame,
+            below: Vec::new(alloc),
+            memory,
+            alloc,
+        })
+    }
+
+    /// What a call enters.
+    fn entry<'a>(
+        &'a self,
+        program: &'a CProgram,
+        into: &'a Option<CPlace>,
+        who: &'a CCallee,
+        arguments: &'a [CExpr],
+    ) -> Result<Entry, Halt>
+        requires { FitsFrame program.now self.now.frame }
+        ensures entry { IfOk result (IsEntry program.now) }
+        ensures value { Tells entered_of result (entered program.now (runner_view program.now self.now) into.now who.now arguments.now) }
+    {
+        let scope = self.scope(program);
+        entered(&scope, into, who, arguments)
+    }
+
+    /// Makes the blocks of a function that is entered. The first one's number is the answer.
+    fn make_blocks(
+        &mut self,
+        program: &CProgram,
+        function: usize,
+        parameters: Memory,
+    ) -> Result<usize, AllocError>
+        requires { length parameters ≡ length (parts_at program.now (Some function)).parameters }
+        ensures base { IfOk result (λ base. base ≡ length self.old.memory) }
+        ensures made { OnOk result (self.new.memory ≡ self.old.memory ++ (parameters ++ fresh_blocks false program.now.declarations (parts_at program.now (Some function)).locals)) }
+        ensures fits { OnOk result (length self.old.memory + (length (parts_at program.now (Some function)).parameters + length (parts_at program.now (Some function)).locals) < 2 ^ 63) }
+        ensures rest { (self.new.frame ≡ self.old.frame) × (self.new.below.items ≡ self.old.below.items) }
+    {
+        let base = self.memory.made();
+        let text = written_text(program, Some(function));
+        self.memory.append(parameters)?;
+        let declared = program.declarations.as_slice();
+        push_fresh(self.alloc, false, declared, text.locals, &mut self.memory)?;
+        Ok(base)
+    }
+
+    /// Enters a function.
+    fn enter(&mut self, program: &CProgram, entry: Entry) -> Result<Done, Halt>
+        requires fits { FitsFrames program.now self.old }
+        requires small { self.old.frame.spot.at + 1 < 2 ^ 64 }
+        requires entry { IsEntry program.now entry }
+        ensures act { (input output calls : List ℕ) → Acts program.now self.new input output calls result
+            (Onward (entered_state program.now (state_of program.now self.old input output calls)
+            (todo_at (body_at program.now self.old.frame) self.old.frame.spot.outer.items (self.old.frame.spot.at + 1)) (entered_of entry))) }
+        ensures fits { OnOk result (FitsFrames program.now self.new) }
+    {
+        let Entry {
+            function,
+            target,
+            parameters,
+        } = entry;
+        let Some(reach) = function.checked_add(1) else {
+            return Err(Halt::Memory);
+        };
+        let base = self.make_blocks(program, function, parameters)?;
+        let frame = Frame {
+            function: Some(function),
+            reach,
+            base,
+            spot: Spot::start(self.alloc),
+            target,
+        };
+        self.frame.spot.at += 1;
+        let caller = mem::replace(&mut self.frame, frame);
+        push_frame(&mut self.below, caller)?;
+        Ok(done_by_call(is_counted(program, function)))
+    }
+
+    pub fn call(
+        &mut self,
+        program: &CProgram,
+        into: &Option<CPlace>,
+        who: &CCallee,
+        arguments: &[CExpr],
+    ) -> Result<Done, Halt>
+        requires fits { FitsFrames program.now self.old }
+        requires small { self.old.frame.spot.at + 1 < 2 ^ 64 }
+        ensures act { (input output calls : List ℕ) → Acts program.now self.new input output calls result
+            (do_statement program.now (runner_view program.now self.old) (state_of program.now self.old input output calls)
+            (todo_at (body_at program.now self.old.frame) self.old.frame.spot.outer.items (self.old.frame.spot.at + 1)) (t.Call into.now who.now arguments.now)) }
+        ensures fits { OnOk result (FitsFrames program.now self.new) }
+    {
+        let entry = self.entry(program, into, who, arguments)?;
+        self.enter(program, entry)
+    }
+
+    // ---- the end of a function
+
+    /// What `return` gives.
+    fn given<'p>(
+        &self,
+        program: &'p CProgram,
+        e: &'p Option<CExpr>,
+    ) -> Result<Option<Given<'p>>, Halt>
+        requires { FitsFrame program.now self.now.frame }
+        ensures { Tells (option_map given_of) result (m.returned (runner_view program.now self.now) (parts_at program.now self.now.frame.function).result e.now) }
+    {
+        let of = result_of(program, self.frame.function);
+        let scope = self.scope(program);
+        returned(&scope, of, e)
+    }
+
+    /// The store of an answer.
+    fn answer(&self, program: &CProgram, answer: &Option<Given>) -> Result<Option<Store>, Halt>
+        requires { FitsFrame program.now self.now.frame }
+        ensures { (blocks : Blocks) → Answers blocks result (m.answered program.now.declarations blocks (meant self.now.frame.target) (option_map given_of answer.now)) }
+    {
+        let scope = self.scope(program);
+        answer_stored(&scope, &self.frame.target, answer)
+    }
+
+    /// Makes the blocks of the function that runs be gone.
+    #[tactic(auto, using(crate::proofs::Leaving::both_gone))]
+    fn forget_frame(&mut self, program: &CProgram)
+        requires { FitsFrame program.now self.old.frame }
+        ensures { self.new ≡ record self.old { memory = without (names_from self.old.frame.base (variables_at program.now self.old.frame)) self.old.memory } }
+    {
+        let text = written_text(program, self.frame.function);
+        let first = self.frame.base;
+        forget_variables(&mut self.memory, first, text.parameters);
+        let second = first + text.parameters.len();
+        forget_variables(&mut self.memory, second, text.locals);
+    }
+
+    /// The function ends, and the one below goes on.
+    fn leave_to(
+        &mut self,
+        program: &CProgram,
+        frame: Frame,
+        answer: &Option<Given>,
+    ) -> Result<Done, Halt>
+        requires fits { FitsFrame program.now self.old.frame }
+        ensures act { (input output calls : List ℕ) → Acts program.now self.new input output calls result
+            (m.leave_to program.now (state_of program.now self.old input output calls) (frame_of program.now frame ∷ frames_of program.now self.old.below.items []) (option_map given_of answer.now)) }
+        ensures frame { OnOk result (self.new.frame ≡ frame) }
+        ensures below { self.new.below.items ≡ self.old.below.items }
+    {
+        let store = self.answer(program, answer)?;
+        self.forget_frame(program);
+        put_answer(&mut self.memory, store)?;
+        self.frame = frame;
+        Ok(Done::Going)
+    }
+
+    /// `main` ends.
+    fn end(&self, answer: &Option<Given>) -> Result<Done, Halt>
+        ensures { (c : CProgram) (st : State) → Acts c self.now st.input st.output st.calls result (m.leave_to c st [] (option_map given_of answer.now)) }
+    {
+        let status = status_of(self.alloc, answer)?;
+        Ok(Done::Ended(status))
+    }
+
+    /// The end of the function that runs.
+    pub fn leave(&mut self, program: &CProgram, answer: &Option<Given>) -> Result<Done, Halt>
+        requires fits { FitsFrames program.now self.old }
+        ensures act { (input output calls : List ℕ) → Acts program.now self.new input output calls result
+            (m.leave program.now (state_of program.now self.old input output calls) (option_map given_of answer.now)) }
+        ensures fits { OnOk result (FitsFrames program.now self.new) }
+    {
+        match last_frame(&mut self.below) {
+            None => self.end(answer),
+            Some(frame) => self.leave_to(program, frame, answer),
+        }
+    }
+
+    pub fn give(&mut self, program: &CProgram, e: &Option<CExpr>) -> Result<Done, Halt>
+        requires fits { FitsFrames program.now self.old }
+        ensures act { (input output calls : List ℕ) → Acts program.now self.new input output calls result
+            (do_statement program.now (runner_view program.now self.old) (state_of program.now self.old input output calls)
+            (todo_at (body_at program.now self.old.frame) self.old.frame.spot.outer.items (self.old.frame.spot.at + 1)) (t.Return e.now)) }
+        ensures fits { OnOk result (FitsFrames program.now self.new) }
+    {
+        let answer = self.given(program, e)?;
+        self.leave(program, &answer)
+    }
+}

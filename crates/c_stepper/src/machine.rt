@@ -1,0 +1,327 @@
+//! A machine that runs a program.
+ghost use Rattle.std.specs.Prelude.{◌≡◌, ◌≢◌, ◌<◌, ◌≤◌, ◌+◌, ◌++◌, ◌∷◌, ℕ, Option, List, [], Err, Ok, IfOk, Some, None, true, false, length};
+ghost use Rattle.c_meaning.specs.Steps.{Next, CStep};
+ghost use Rattle.p2c_outside.specs.Counts.{Rose};
+ghost use Rattle.p2c_outside.specs.Told.{Gains, IsEmpty};
+ghost use Rattle.held_bytes.specs.Written.{GainsPart};
+ghost use Rattle.held_bytes.specs.Held.{bytes_in};
+ghost use Rattle.c_stepper.specs.Runners.{IsSettled, reads_here, Acts};
+ghost use Rattle.c_stepper.specs.Machines.{stood, IsFor, Begins, Steps, Closes, Writes, IsOver, SameBut, PutFaults, TakeFaults, RunFaults, Ran, ended_by};
+
+use crate::runner::{Done, Runner};
+use c_evaluation::halt::Halt;
+use c_meaning::StuckKind;
+use c_tree::program::CProgram;
+use held_bytes::{HeldInput, HeldOutput};
+use p2c_outside::{Sink, Source};
+use std::alloc::{AllocError, Global};
+
+/// What a step gives.
+#[derive(Clone, Copy, Debug, PartialEq, Eq)]
+pub enum Stepped {
+    Going,
+    /// `main` ended with a status.
+    Ended(u8),
+    Stuck(StuckKind),
+    /// Input was wanted, and taking it failed.
+    InputFault,
+    /// Putting what was written failed.
+    OutputFault,
+    Memory(AllocError),
+}
+
+/// How a run ends.
+#[derive(Clone, Copy, Debug, PartialEq, Eq)]
+pub enum Ended {
+    /// `main` ended. `calls` counts the calls of functions that have a number at their names' ends.
+    Status { status: u8, calls: u64 },
+    /// The program goes on after so many steps.
+    Spent,
+    Stuck(StuckKind),
+    InputFault,
+    OutputFault,
+    Memory(AllocError),
+}
+
+/// A program that runs.
+#[derive(Drop)]
+pub struct Machine {
+    runner: Runner,
+    input: HeldInput,
+    output: HeldOutput,
+    calls: u64,
+    taken: u64,
+    /// The answer that comes again and again.
+    over: Option<Stepped>,
+}
+
+impl Machine {
+    /// The machine at the start of `main`.
+    pub fn new(alloc: Global, program: &CProgram) -> Result<Machine, AllocError>
+        ensures is_for { IfOk result (IsFor program.now) }
+        ensures none { IfOk result (Begins program.now) }
+    {
+        let runner = Runner::new(alloc, program)?;
+        let input = HeldInput::new(alloc)?;
+        let output = HeldOutput::new(alloc)?;
+        Ok(Machine {
+            runner,
+            input,
+            output,
+            calls: 0,
+            taken: 0,
+            over: None,
+        })
+    }
+
+    /// How many steps the machine has done.
+    pub fn taken(&self) -> u64
+        ensures { result ≡ self.now.taken }
+    {
+        self.taken
+    }
+
+    // ---- the end
+
+    /// The machine puts what it holds, and does no more.
+    fn close<O: Sink>(&mut self, answer: Stepped, out: &mut O) -> Stepped
+        requires { answer ≢ Stepped.OutputFault }
+        ensures closed { Closes self.old.output.bytes.items (O.written out.old) (O.written out.new) answer result }
+        ensures over { self.new.over ≡ Some result }
+        ensures empty { self.new.output.bytes.items ≡ [] }
+        ensures stays { SameBut self.old self.new }
+        ensures faults { PutFaults (O.faults out.old) (O.faults out.new) result }
+    {
+        let answer = match self.output.flush(out) {
+            Ok(()) => answer,
+            Err(_) => Stepped::OutputFault,
+        };
+        self.over = Some(answer);
+        answer
+    }
+
+    /// A step was not taken.
+    fn halt<O: Sink>(&mut self, halt: Halt, out: &mut O) -> Stepped
+        ensures step { (c : CProgram) (it : Runner) (left : Option (List ℕ)) (input output calls : List ℕ) (next : Next) → Acts c it input output calls (Err halt) next
+            → Steps c self.old.output.bytes.items self.old.calls self.new left (O.written out.old) (O.written out.new) output calls result next }
+        ensures over { self.new.over ≡ Some result }
+        ensures empty { self.new.output.bytes.items ≡ [] }
+        ensures stays { SameBut self.old self.new }
+        ensures faults { PutFaults (O.faults out.old) (O.faults out.new) result }
+        ensures not_going { result ≢ Stepped.Going }
+        ensures no_input { result ≢ Stepped.InputFault }
+    {
+        match halt {
+            Halt::Stuck(kind) => self.close(Stepped::Stuck(kind), out),
+            Halt::Memory => self.close(Stepped::Memory(AllocError), out),
+        }
+    }
+
+    /// The steps are done.
+    fn spend<O: Sink>(&mut self, out: &mut O) -> Ended
+        ensures whole { result ≢ Ended.OutputFault → (result ≡ Ended.Spent) × Gains (O.written out.old) (O.written out.new) self.old.output.bytes.items × (O.faults out.new ≡ O.faults out.old) }
+        ensures part { result ≡ Ended.OutputFault → GainsPart (O.written out.old) (O.written out.new) self.old.output.bytes.items × Rose (O.faults out.old) (O.faults out.new) }
+    {
+        match self.output.flush(out) {
+            Ok(()) => Ended::Spent,
+            Err(_) => Ended::OutputFault,
+        }
+    }
+
+    // ---- steps
+
+    /// A byte is written.
+    fn write<O: Sink>(&mut self, byte: u8, out: &mut O) -> Stepped
+        ensures wrote { Writes self.old.output.bytes.items self.new.output.bytes.items (O.written out.old) (O.written out.new) (byte ∷ []) result }
+        ensures over { IsOver self.old self.new result }
+        ensures few { length self.new.output.bytes.items < 4096 }
+        ensures stays { SameBut self.old self.new }
+        ensures faults { PutFaults (O.faults out.old) (O.faults out.new) result }
+    {
+        if let Err(error) = self.output.push(byte) {
+            return self.close(Stepped::Memory(error), out);
+        }
+        match self.output.flush_piece(out) {
+            Ok(()) => Stepped::Going,
+            Err(_) => {
+                self.over = Some(Stepped::OutputFault);
+                Stepped::OutputFault
+            }
+        }
+    }
+
+    /// A step was taken.
+    fn after<O: Sink>(&mut self, done: Done, out: &mut O) -> Stepped
+        requires counted { self.old.calls ≤ self.old.taken }
+        requires few { self.old.taken < 1000000000000000000 }
+        requires held { length self.old.output.bytes.items < 4096 }
+        ensures step { (c : CProgram) (left output calls : List ℕ) (next : Next) → Acts c self.old.runner (bytes_in self.old.input ++ left) output calls (Ok done) next → length calls ≡ self.old.calls
+            → Steps c self.old.output.bytes.items self.old.calls self.new (Some left) (O.written out.old) (O.written out.new) output calls result next }
+        ensures over { IsOver self.old self.new result }
+        ensures few { length self.new.output.bytes.items < 4096 }
+        ensures counted { self.new.calls ≤ self.new.taken }
+        ensures taken { self.new.taken ≡ self.old.taken + 1 }
+        ensures same { (self.new.runner ≡ self.old.runner) × (self.new.input ≡ self.old.input) }
+        ensures faults { PutFaults (O.faults out.old) (O.faults out.new) result }
+        ensures no_input { result ≢ Stepped.InputFault }
+    {
+        self.taken += 1;
+        match done {
+            Done::Going => Stepped::Going,
+            Done::Entered => {
+                self.calls += 1;
+                Stepped::Going
+            }
+            Done::Wrote(byte) => self.write(byte, out),
+            Done::Ended(status) => self.close(Stepped::Ended(status), out),
+        }
+    }
+
+    /// A step that is no `getchar`.
+    fn act<O: Sink>(&mut self, program: &CProgram, out: &mut O) -> Stepped
+        requires is_for { IsFor program.now self.old }
+        requires going { self.old.over ≡ None }
+        requires settled { IsSettled program.now self.old.runner.frame }
+        requires other { reads_here program.now self.old.runner.frame ≡ false }
+        requires few { self.old.taken < 1000000000000000000 }
+        ensures step { (left output calls : List ℕ) → length calls ≡ self.old.calls
+            → Steps program.now self.old.output.bytes.items self.old.calls self.new (Some left) (O.written out.old) (O.written out.new) output calls result (CStep program.now (stood program.now self.old left output calls)) }
+        ensures is_for { IsFor program.now self.new }
+        ensures over { IsOver self.old self.new result }
+        ensures taken { result ≡ Stepped.Going → self.new.taken ≡ self.old.taken + 1 }
+        ensures input { self.new.input ≡ self.old.input }
+        ensures faults { PutFaults (O.faults out.old) (O.faults out.new) result }
+        ensures no_input { result ≢ Stepped.InputFault }
+    {
+        match self.runner.step(program) {
+            Ok(done) => self.after(done, out),
+            Err(halt) => self.halt(halt, out),
+        }
+    }
+
+    /// A `getchar`.
+    fn read<I: Source, O: Sink>(
+        &mut self,
+        program: &CProgram,
+        input: &mut I,
+        out: &mut O,
+    ) -> Stepped
+        requires is_for { IsFor program.now self.old }
+        requires going { self.old.over ≡ None }
+        requires settled { IsSettled program.now self.old.runner.frame }
+        requires reads { reads_here program.now self.old.runner.frame ≡ true }
+        requires few { self.old.taken < 1000000000000000000 }
+        requires end { self.old.input.over ≡ true → IsEmpty (I.left input.old) }
+        ensures step { (left output calls : List ℕ) → I.left input.old ≡ Some left → length calls ≡ self.old.calls
+            → Steps program.now self.old.output.bytes.items self.old.calls self.new (I.left input.new) (O.written out.old) (O.written out.new) output calls result (CStep program.now (stood program.now self.old left output calls)) }
+        ensures is_for { IsFor program.now self.new }
+        ensures over { IsOver self.old self.new result }
+        ensures taken { result ≡ Stepped.Going → self.new.taken ≡ self.old.taken + 1 }
+        ensures end { self.new.input.over ≡ true → IsEmpty (I.left input.new) }
+        ensures put_faults { PutFaults (O.faults out.old) (O.faults out.new) result }
+        ensures take_faults { TakeFaults (I.faults input.old) (I.faults input.new) result }
+    {
+        let Ok(byte) = self.input.next(input) else {
+            return self.close(Stepped::InputFault, out);
+        };
+        match self.runner.read(program, byte) {
+            Ok(_) => {
+                self.input.advance();
+                self.taken += 1;
+                Stepped::Going
+            }
+            Err(halt) => self.halt(halt, out),
+        }
+    }
+
+    /// One step. A machine that answered anything but `Going` answers it again, and does nothing.
+    pub fn step<I: Source, O: Sink>(
+        &mut self,
+        program: &CProgram,
+        input: &mut I,
+        out: &mut O,
+    ) -> Stepped
+        requires is_for { IsFor program.now self.old }
+        requires few { self.old.taken < 1000000000000000000 }
+        requires end { self.old.input.over ≡ true → IsEmpty (I.left input.old) }
+        ensures step { self.old.over ≡ None → (left output calls : List ℕ) → I.left input.old ≡ Some left → length calls ≡ self.old.calls
+            → Steps program.now self.old.output.bytes.items self.old.calls self.new (I.left input.new) (O.written out.old) (O.written out.new) output calls result (CStep program.now (stood program.now self.old left output calls)) }
+        ensures again { (answer : Stepped) → self.old.over ≡ Some answer → (result ≡ answer) × (self.new ≡ self.old) × (input.new ≡ input.old) × (out.new ≡ out.old) }
+        ensures over { self.old.over ≡ None → IsOver self.old self.new result }
+        ensures is_for { IsFor program.now self.new }
+        ensures taken { self.old.over ≡ None → result ≡ Stepped.Going → self.new.taken ≡ self.old.taken + 1 }
+        ensures end { self.new.input.over ≡ true → IsEmpty (I.left input.new) }
+        ensures put_faults { self.old.over ≡ None → PutFaults (O.faults out.old) (O.faults out.new) result }
+        ensures take_faults { self.old.over ≡ None → TakeFaults (I.faults input.old) (I.faults input.new) result }
+    {
+        if let Some(answer) = self.over {
+            return answer;
+        }
+        self.runner.settle(program);
+        if self.runner.reads(program) {
+            self.read(program, input, out)
+        } else {
+            self.act(program, out)
+        }
+    }
+}
+
+/// The answer of a run that is over.
+fn last_answer(answer: Stepped, calls: u64) -> Ended
+    requires { answer ≢ Stepped.Going }
+    ensures { result ≡ ended_by calls answer }
+{
+    match answer {
+        Stepped::Going => unreachable!(),
+        Stepped::Ended(status) => Ended::Status { status, calls },
+        Stepped::Stuck(kind) => Ended::Stuck(kind),
+        Stepped::InputFault => Ended::InputFault,
+        Stepped::OutputFault => Ended::OutputFault,
+        Stepped::Memory(error) => Ended::Memory(error),
+    }
+}
+
+/// At most so many steps of a machine.
+fn run_from<I: Source, O: Sink>(
+    machine: Machine,
+    program: &CProgram,
+    steps: u64,
+    input: &mut I,
+    out: &mut O,
+) -> Ended
+    requires few { steps ≤ 1000000000000000000 }
+    requires is_for { IsFor program.now machine }
+    requires begins { Begins program.now machine }
+    ensures ran { (bytes : List ℕ) → I.left input.old ≡ Some bytes → Ran program.now bytes steps (O.written out.old) (O.written out.new) result }
+    ensures faults { RunFaults (I.faults input.old) (I.faults input.new) (O.faults out.old) (O.faults out.new) result }
+{
+    let mut machine = machine;
+    let mut left = steps;
+    while left > 0 {
+        match machine.step(program, input, out) {
+            Stepped::Going => {
+                left -= 1;
+            }
+            answer => return last_answer(answer, machine.calls),
+        }
+    }
+    machine.spend(out)
+}
+
+/// Runs a program for at most so many steps.
+pub fn run<I: Source, O: Sink>(
+    alloc: Global,
+    program: &CProgram,
+    steps: u64,
+    input: &mut I,
+    out: &mut O,
+) -> Ended
+    requires { steps ≤ 1000000000000000000 }
+    ensures ran { (bytes : List ℕ) → I.left input.old ≡ Some bytes → Ran program.now bytes steps (O.written out.old) (O.written out.new) result }
+    ensures faults { RunFaults (I.faults input.old) (I.faults input.new) (O.faults out.old) (O.faults out.new) result }
+{
+    match Machine::new(alloc, program) {
+        Ok(machine) => run_from(machine, program, steps, input, out),
+        Err(error) => Ended::Memory(error),
+    }
+}

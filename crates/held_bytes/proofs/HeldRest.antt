@@ -1,0 +1,16 @@
+-- What is held after a byte is read.
+use Rattle.std.proofs.Common.{◌≡◌, ℕ, zero, suc, ◌+◌, List, [], ◌∷◌, drop, refl, ap, ◌∙◌, arith}
+use Rattle.held_bytes.specs.Held.{rest_of}
+
+all_of : (xs : List ℕ) → drop 0 xs ≡ xs
+all_of [] = refl
+all_of (x ∷ xs) = refl
+
+rest_next : (xs : List ℕ) (n : ℕ) → drop (suc n) xs ≡ rest_of (drop n xs)
+rest_next [] zero = refl
+rest_next [] (suc n) = refl
+rest_next (x ∷ xs) zero = all_of xs
+rest_next (x ∷ xs) (suc n) = rest_next xs n
+
+pub rest_drop : (xs : List ℕ) (n : ℕ) → drop (n + 1) xs ≡ rest_of (drop n xs)
+rest_drop xs n = let e : n + 1 ≡ suc n = omega arith in ap (λ k. drop k xs) e ∙ rest_next xs n

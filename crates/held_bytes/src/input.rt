@@ -1,0 +1,14 @@
+//! Bytes that were taken.
+ghost use Rattle.std.specs.Prelude.{◌≤◌, vec_len};
+
+/// Bytes that were taken and are not read yet. Nothing is taken after the end was met.
+#[derive(Drop)]
+pub struct HeldInput {
+    pub buffer: Vec<u8>,
+    pub at: usize,
+    pub end: usize,
+    /// Whether a call gave no byte.
+    pub over: bool,
+    pub ghost has_room: { 1 ≤ vec_len buffer },
+    pub ghost within: { end ≤ vec_len buffer },
+}
