@@ -17,7 +17,7 @@ use Rattle.p2c_main.specs.Reading.{Lacks}
 use Rattle.p2c_main.specs.Words.{file_asked, name_asked}
 use Rattle.p2c_main.specs.declared.outcome.Outcome.{Outcome}
 use Rattle.p2c_main.specs.declared.outcome.Outcome.TheVariants.{Done, Usage, TooLong, Unbuilt, Missing, ReadFault, WriteFault, OutOfMemory}
-use Rattle.p2c_main.specs.Written.{GainsPart, Says}
+use Rattle.held_bytes.specs.Written.{GainsPart, Says}
 use Rattle.p2c_main.specs.Translated.{Accepts, IsTranslation, IsMade, Refuses, AsksForAccepted}
 
 -- the text of the program that writes what the source writes

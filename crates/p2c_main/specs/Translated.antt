@@ -9,7 +9,7 @@ use Rattle.program_shape.specs.Shape.{Shape}
 use Rattle.program_shape.specs.Laws.{NothingPerforms}
 use Rattle.literal_writers.specs.Form.{IsWriter}
 use Rattle.p2c_main.specs.Words.{file_asked}
-use Rattle.p2c_main.specs.Written.{GainsPart}
+use Rattle.held_bytes.specs.Written.{GainsPart}
 
 -- the source is a program with these statements, and not too long
 abbrev pub Accepts : (source : List ℕ) → List Writing → Type 0

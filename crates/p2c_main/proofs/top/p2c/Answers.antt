@@ -4,7 +4,7 @@ use Rattle.std.specs.Option.{option_copied}
 use Rattle.p2c_outside.specs.Counts.{Rose}
 use Rattle.p2c_outside.specs.Told.{Gains}
 use Rattle.p2c_main.specs.Messages.{status_of, message_of}
-use Rattle.p2c_main.specs.Written.{GainsPart}
+use Rattle.held_bytes.specs.Written.{GainsPart}
 use Rattle.p2c_main.specs.Reading.{Lacks}
 use Rattle.p2c_main.specs.Translated.{Translates, TranslatesPart, Refuses}
 use Rattle.p2c_main.specs.Words.{file_asked, name_asked}
