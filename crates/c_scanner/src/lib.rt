@@ -14,6 +14,8 @@ mod marks;
 mod scanning;
 #[cfg(test)]
 mod tests;
+mod text;
 mod words;
 
-pub use scanning::{LONGEST_INPUT, Placed, ScanFault, tokens};
+pub use scanning::{LONGEST_INPUT, ScanFault, tokens};
+pub use text::PlacedTokens;

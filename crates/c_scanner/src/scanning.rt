@@ -2,13 +2,13 @@
 
 ghost use Rattle.std.specs.Prelude.{◌≡◌, ◌≤◌, ◌++◌, ◌∷◌, [], length, OnOk, IfOk, IfErr, MatchResult, Ok, Err};
 ghost use Rattle.c_grammar.specs.Token.{IsTokens, placed};
-ghost use Rattle.c_grammar.specs.Seen.{token_of, AreTokens};
-ghost use Rattle.c_grammar.specs.Text.{plain};
+ghost use Rattle.c_grammar.specs.Seen.{token_of, tokens_of, AreTokens};
 ghost use Rattle.c_scanner.specs.Head as head;
 ghost use Rattle.c_scanner.specs.Scan.{IsRefused};
-ghost use Rattle.c_scanner.specs.Seen.{seen};
+ghost use Rattle.c_scanner.specs.Seen.{at_places, seen};
 
 use crate::front::{Front, front_of};
+use crate::text::PlacedTokens;
 use c_grammar::token::CToken;
 use std::alloc::{AllocError, Global};
 
@@ -18,13 +18,6 @@ pub const LONGEST_INPUT: usize = 67_108_864;
 /// The lines with which each text begins.
 const HEAD_LINES: &[u8] =
     b"/* p2c 1 */\n#include <stdint.h>\n#include <stdio.h>\n#include <stdlib.h>\n";
-
-/// A token, and the number of bytes before it.
-#[derive(Clone, Copy, Debug)]
-pub struct Placed<'a> {
-    pub token: CToken<'a>,
-    pub place: u32,
-}
 
 /// Why a text has no tokens.
 #[derive(Debug, Drop)]
@@ -57,18 +50,26 @@ fn after_lines<'a>(lines: &[u8], bytes: &'a [u8]) -> Result<&'a [u8], usize>
     Ok(rest)
 }
 
-fn put<'a>(tokens: &mut Vec<Placed<'a>>, token: CToken<'a>, place: u32) -> Result<(), AllocError>
-    ensures { OnOk result (seen tokens.new.items ≡ seen tokens.old.items ++ placed (token_of token.entry) place ∷ []) }
+fn put<'a>(
+    tokens: &mut Vec<CToken<'a>>,
+    places: &mut Vec<u32>,
+    token: CToken<'a>,
+    place: u32,
+) -> Result<(), AllocError>
+    requires { length places.old.items ≡ length tokens.old.items }
+    ensures put { OnOk result (at_places tokens.new.items places.new.items ≡ at_places tokens.old.items places.old.items ++ placed (token_of token.entry) place ∷ []) }
+    ensures as_many { OnOk result (length places.new.items ≡ length tokens.new.items) }
 {
-    tokens.push(Placed { token, place })?;
+    tokens.push(token)?;
+    places.push(place)?;
     Ok(())
 }
 
-/// The tokens of a text, in order.
-pub fn tokens<'a>(alloc: Global, bytes: &'a [u8]) -> Result<Vec<Placed<'a>>, ScanFault>
+/// The tokens of a text.
+pub fn tokens<'a>(alloc: Global, bytes: &'a [u8]) -> Result<PlacedTokens<'a>, ScanFault>
     requires { length bytes.now ≤ LONGEST_INPUT }
-    ensures tokens { IfOk result (λ tokens. IsTokens bytes.now (seen tokens.items)) }
-    ensures names { IfOk result (λ tokens. AreTokens (plain (seen tokens.items))) }
+    ensures tokens { IfOk result (λ text. IsTokens bytes.now (seen text)) }
+    ensures names { IfOk result (λ text. AreTokens (tokens_of text.tokens.items)) }
     ensures fault { IfErr result (IsRefused bytes.now) }
 {
     let mut rest = match after_lines(HEAD_LINES, bytes) {
@@ -76,6 +77,7 @@ pub fn tokens<'a>(alloc: Global, bytes: &'a [u8]) -> Result<Vec<Placed<'a>>, Sca
         Err(n) => return Err(ScanFault::At { place: n as u32 }),
     };
     let mut tokens = Vec::new(alloc);
+    let mut places = Vec::new(alloc);
     let mut place = HEAD_LINES.len() as u32;
     while !rest.is_empty() {
         let (token, len) = match front_of(rest) {
@@ -87,9 +89,9 @@ pub fn tokens<'a>(alloc: Global, bytes: &'a [u8]) -> Result<Vec<Placed<'a>>, Sca
             Front::Piece(token, len) => (token, len),
             Front::Nothing => return Err(ScanFault::At { place }),
         };
-        put(&mut tokens, token, place).map_err(ScanFault::Memory)?;
+        put(&mut tokens, &mut places, token, place).map_err(ScanFault::Memory)?;
         rest = rest.split_at(len).1;
         place += len as u32;
     }
-    Ok(tokens)
+    Ok(PlacedTokens { tokens, places })
 }

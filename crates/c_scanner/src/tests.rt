@@ -1,6 +1,6 @@
 ghost use Rattle.std.specs.Prelude.{◌≤◌, length};
 
-use crate::{LONGEST_INPUT, Placed, ScanFault, tokens};
+use crate::{LONGEST_INPUT, ScanFault, tokens};
 use c_grammar::token::CToken;
 use std::alloc::{AllocError, Global};
 use std::test::Fail;
@@ -17,8 +17,8 @@ fn put_bytes(shown: &mut String, bytes: &[u8]) -> Result<(), AllocError> {
     Ok(())
 }
 
-fn put_token(shown: &mut String, placed: &Placed) -> Result<(), AllocError> {
-    match placed.token {
+fn put_token(shown: &mut String, token: &CToken, place: u32) -> Result<(), AllocError> {
+    match *token {
         CToken::Identifier(name) => {
             shown.push_str("name ")?;
             put_bytes(shown, name)?;
@@ -27,7 +27,7 @@ fn put_token(shown: &mut String, placed: &Placed) -> Result<(), AllocError> {
         CToken::Quoted(word) => write!(shown, "{word:?}")?,
         CToken::Sign(mark) => write!(shown, "{mark:?}")?,
     }
-    write!(shown, " {}; ", placed.place)
+    write!(shown, " {place}; ")
 }
 
 fn shown(alloc: Global, text: &[u8]) -> Result<String, AllocError>
@@ -35,9 +35,9 @@ fn shown(alloc: Global, text: &[u8]) -> Result<String, AllocError>
 {
     let mut shown = String::new(alloc);
     match tokens(alloc, text) {
-        Ok(list) => {
-            for placed in &list {
-                put_token(&mut shown, placed)?;
+        Ok(text) => {
+            for (token, place) in text.tokens.iter().zip(&text.places) {
+                put_token(&mut shown, token, *place)?;
             }
         }
         Err(ScanFault::At { place }) => write!(shown, "! {place}")?,
