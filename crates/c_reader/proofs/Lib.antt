@@ -1,0 +1,6 @@
+mod Depths
+mod Fronts
+mod Levels
+mod Refused
+mod Texts
+mod Whole

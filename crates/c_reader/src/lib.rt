@@ -1,0 +1,17 @@
+//! Reads texts of the C subset.
+//!
+//! `read` cuts the bytes into tokens, parses them and checks the further conditions of the tree. It
+//! answers the tree exactly where the bytes are a text, `CText` of c_grammar. Else it names a
+//! condition that fails and the line on which it does; `specs/Read.antt` says so in a few words.
+//!
+//! The lemmas of `proofs/` join what the parts ensure. `Levels` is that the parser sees to the depth,
+//! `Whole` that no text goes on after its last token, `Fronts` where the tokens of a text stand, and
+//! `Refused` what each refusal means.
+#![tactic(auto)]
+
+mod fault;
+mod reading;
+
+pub use c_scanner::LONGEST_INPUT;
+pub use fault::CTextFault;
+pub use reading::read;
