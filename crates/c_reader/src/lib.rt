@@ -11,6 +11,8 @@
 
 mod fault;
 mod reading;
+#[cfg(test)]
+mod tests;
 
 pub use c_scanner::LONGEST_INPUT;
 pub use fault::CTextFault;
