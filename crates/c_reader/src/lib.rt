@@ -4,9 +4,10 @@
 //! answers the tree exactly where the bytes are a text, `CText` of c_grammar. Else it names a
 //! condition that fails and the line on which it does; `specs/Read.antt` says so in a few words.
 //!
-//! The lemmas of `proofs/` join what the parts ensure. `Levels` is that the parser sees to the depth,
-//! `Whole` that no text goes on after its last token, `Fronts` where the tokens of a text stand, and
-//! `Refused` what each refusal means.
+//! The lemmas of `proofs/` join what the parts ensure. `Levels` and `Depths` are that the demands of
+//! levels hold exactly where the parser's count of levels does, `Whole` that no text goes on after its
+//! last token, `Fronts` where the tokens of a text stand, and `Refused` and `Texts` what each answer of
+//! the parts means for the bytes.
 #![tactic(auto)]
 
 mod fault;
