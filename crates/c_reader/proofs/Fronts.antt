@@ -32,7 +32,7 @@ token_at bytes tokens before later t (body, e, cut) whole = let f = front_of cut
 
 -- ---- a token begins within the bytes
 
-some_is : {A : Type 0} (a b : A) → Some a ≡ Some b → a ≡ b
+pub some_is : {A : Type 0} (a b : A) → Some a ≡ Some b → a ≡ b
 some_is a b e = cc
 
 begins_within : {n : ℕ} {x r : List ℕ} {ts : List Placed} → Cut n x ts r → (k : ℕ) (t : Placed) → slice_get ts k ≡ Some t → t.place ≤ n + length x

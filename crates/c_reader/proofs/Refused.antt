@@ -27,7 +27,7 @@ use Rattle.c_conditions.specs.Conditions.{HoldAllButLevels, FailsAt}
 use Rattle.c_scanner.specs.Scan.{HasNoTokens}
 use Rattle.c_reader.specs.Read.{line_at, IsNoText}
 use Rattle.c_reader.proofs.Depths.{program_fits}
-use Rattle.c_reader.proofs.Fronts.{token_at, behind, plain_long}
+use Rattle.c_reader.proofs.Fronts.{some_is, token_at, behind, plain_long}
 use Rattle.c_reader.proofs.Levels.{hold_all, level_holds}
 use Rattle.c_reader.proofs.Whole.{nothing_after}
 
@@ -41,9 +41,6 @@ spells bytes tokens c cut text = let tree = text.tree in record { of_grammar = t
 
 conditions_of : (bytes : List ℕ) (c : CProgram) → CText bytes c → HoldAll (program_demands c)
 conditions_of bytes c text = let tree = text.tree in tree.conditions
-
-some_is : {A : Type 0} (a b : A) → Some a ≡ Some b → a ≡ b
-some_is a b e = cc
 
 pub bad_byte : (bytes : List ℕ) (place line : ℕ) → HasNoTokens bytes place → line ≡ line_at bytes place → IsNoText bytes kind.BadByte line
 bad_byte bytes place line h e = no_text bytes kind.BadByte place line h.at (λ other. absurd (cc)) e
