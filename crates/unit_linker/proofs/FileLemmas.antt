@@ -1,12 +1,12 @@
 -- Names of given files, and uses without a unit.
-use Rattle.std.proofs.Common.{◌≡◌, ℕ, zero, suc, ◌+◌, ◌-◌, ◌≤◌, ◌<◌, Bool, true, false, cond, List, [], ◌∷◌, ◌++◌, length, Option, Some, None, is_none, is_some, refl, sym, ap, ◌∙◌, subst, append_assoc, arith}
+use Rattle.std.proofs.Common.{◌≡◌, ℕ, suc, ◌-◌, ◌≤◌, Bool, true, false, cond, List, [], ◌∷◌, ◌++◌, length, Option, Some, None, is_none, refl, sym, ap, ◌∙◌, subst, append_assoc, arith}
 use Rattle.std.specs.Option.{option_map}
 use Rattle.p2c_text.specs.declared.place.Span.{Span}
 use Rattle.pascal_tree.specs.declared.names.Identifier.{Identifier}
 use Rattle.pascal_tree.specs.declared.files.SourceFile.{SourceFile}
 use Rattle.unit_linker.specs.declared.fault.LinkFault.{LinkFault}
 use Rattle.unit_linker.specs.declared.fault.LinkFault.TheVariants.{NoProgram, TwoPrograms, DoubleUnit, MissingUnit, Cycle, Memory}
-use Rattle.unit_linker.specs.Files.{unit_name, span_of, interface_uses, implementation_uses, Names, with_name, named_from, named, place_of, is_known, double_from, double, all_uses, first_missing}
+use Rattle.unit_linker.specs.Files.{unit_name, interface_uses, implementation_uses, Names, with_name, named_from, named, place_of, is_known, double_from, double, all_uses, first_missing}
 use Rattle.unit_linker.specs.Faults.{IsKnown, IsDouble}
 
 no_items : {A : Type 0} (xs : List A) → length xs ≡ 0 → xs ≡ []

@@ -6,3 +6,5 @@ pub mod NoWay
 pub mod FileLemmas
 pub mod ProgramLemmas
 pub mod TakeLemmas
+pub mod OrderLaws
+pub mod LinkLemmas

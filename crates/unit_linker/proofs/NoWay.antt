@@ -1,12 +1,12 @@
 -- What the search finds is a way, and where it finds none there is none.
-use Rattle.std.proofs.Common.{◌≡◌, ℕ, zero, suc, ◌+◌, ◌≤◌, ◌<◌, ◌⊎◌, inl, inr, Bool, true, false, nat_eq, List, [], ◌∷◌, ◌++◌, length, Option, Some, None, refl, sym, ap, ◌∙◌, subst, arith, slice_get, slice_set, if◌then◌else◌, replicate}
+use Rattle.std.proofs.Common.{◌≡◌, ℕ, zero, suc, ◌+◌, ◌≤◌, ◌<◌, ◌⊎◌, inl, inr, Bool, true, false, nat_eq, List, [], ◌∷◌, length, Option, Some, None, refl, sym, ap, ◌∙◌, subst, arith, slice_get, slice_set, if◌then◌else◌, replicate}
 use Rattle.std.specs.Option.{option_map}
 use Rattle.std.specs.Bool.{then_some}
 use Rattle.unit_linker.specs.declared.graph.FileUses.{FileUses}
 use Rattle.unit_linker.specs.Graph.{Among, interface_of, IsClosed, interface_in, LeadsTo, IsCycle, IsCycleAt, IsAcyclic, IsFirstCycle}
 use Rattle.unit_linker.specs.Walk.{is_unmarked}
 use Rattle.unit_linker.specs.Search.{Answer, begun_at, or_then, unless_known, unless_there, by_one_of, way, way_by, told}
-use Rattle.unit_linker.proofs.MarkLemmas.{Marked, unmarked, marking_counts, marking_keeps_length, marked_before, marked_after, marked_there, some_unmarked, length_blank, none_marked, all_unmarked}
+use Rattle.unit_linker.proofs.MarkLemmas.{Marked, unmarked, marking_counts, marking_keeps_length, marked_before, marked_after, marked_there, length_blank, none_marked, all_unmarked}
 
 same_number : (m n : ℕ) → nat_eq m n ≡ true → m ≡ n
 same_number m n h = grind (arith, h)
@@ -300,7 +300,7 @@ no_uses : (graph : List FileUses) (u v : ℕ) → length graph ≤ u → Among (
 unfolding interface_of interface_in
 no_uses graph u v h a = subst (λ o. Among (interface_in o) v) (uses_nothing graph u h) a
 
-leads_nowhere : (graph : List FileUses) (u v : ℕ) (path : List ℕ) → length graph ≤ u → LeadsTo graph (u ∷ path) v → ⊥
+pub leads_nowhere : (graph : List FileUses) (u v : ℕ) (path : List ℕ) → length graph ≤ u → LeadsTo graph (u ∷ path) v → ⊥
 unfolding LeadsTo
 leads_nowhere graph u v [] h l = no_uses graph u v h l
 leads_nowhere graph u v (w ∷ path) h l = no_uses graph u w h l.0

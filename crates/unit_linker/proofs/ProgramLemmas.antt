@@ -1,9 +1,9 @@
 -- Finding the one program.
-use Rattle.std.proofs.Common.{◌≡◌, ℕ, zero, suc, ◌+◌, ◌-◌, ◌≤◌, ◌<◌, Bool, true, false, cond, List, [], ◌∷◌, length, Option, Some, None, IsSome, refl, sym, ap, ◌∙◌, subst, arith, slice_get}
+use Rattle.std.proofs.Common.{◌≡◌, ℕ, suc, ◌+◌, ◌-◌, ◌≤◌, Bool, true, false, cond, List, [], ◌∷◌, length, Option, Some, None, IsSome, refl, sym, ap, ◌∙◌, subst, arith, slice_get}
 use Rattle.pascal_tree.specs.declared.files.SourceFile.{SourceFile}
 use Rattle.unit_linker.specs.declared.fault.LinkFault.{LinkFault}
 use Rattle.unit_linker.specs.declared.fault.LinkFault.TheVariants.{NoProgram, TwoPrograms, DoubleUnit, MissingUnit, Cycle, Memory}
-use Rattle.unit_linker.specs.Files.{is_program, span_of, programs, next_found, IsOneProgram}
+use Rattle.unit_linker.specs.Files.{is_program, programs, next_found, IsOneProgram}
 use Rattle.unit_linker.specs.Faults.{IsSecond, IsNotOne}
 
 -- what was found in front of `rest`

@@ -1,5 +1,5 @@
 -- Steps of the search for a way.
-use Rattle.std.proofs.Common.{◌≡◌, ℕ, zero, suc, Bool, true, false, nat_eq, List, [], ◌∷◌, ◌++◌, Option, Some, None, length, take, ◌-◌, refl, sym, ap, ◌∙◌, append_assoc, arith, slice_get, slice_set}
+use Rattle.std.proofs.Common.{◌≡◌, ℕ, zero, suc, Bool, true, false, nat_eq, List, [], ◌∷◌, ◌++◌, Some, None, length, take, ◌-◌, refl, sym, ap, ◌∙◌, append_assoc, arith, slice_get, slice_set}
 use Rattle.unit_linker.specs.declared.graph.FileUses.{FileUses}
 use Rattle.unit_linker.specs.Graph.{interface_of}
 use Rattle.unit_linker.specs.Walk.{is_unmarked}

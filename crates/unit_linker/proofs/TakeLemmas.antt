@@ -1,5 +1,5 @@
 -- Taking files out of their places.
-use Rattle.std.proofs.Common.{◌≡◌, ℕ, zero, suc, List, [], ◌∷◌, ◌++◌, length, inl, inr, Option, Some, None, refl, sym, ap, ◌∙◌, subst, append_assoc, arith, slice_get, slice_set}
+use Rattle.std.proofs.Common.{◌≡◌, ℕ, zero, suc, List, [], ◌∷◌, ◌++◌, length, inl, inr, Option, Some, None, refl, sym, ap, ◌∙◌, subst, append_assoc, arith, slice_set}
 use Rattle.std.specs.List.{filter_map, cons_option}
 use Rattle.pascal_tree.specs.declared.files.SourceFile.{SourceFile}
 use Rattle.unit_linker.specs.Graph.{Among}

@@ -1,5 +1,5 @@
 -- Steps of the walk.
-use Rattle.std.proofs.Common.{◌≡◌, ℕ, zero, suc, Bool, true, false, List, [], ◌∷◌, ◌++◌, Option, Some, None, length, refl, sym, ap, ◌∙◌, arith, slice_get, slice_set}
+use Rattle.std.proofs.Common.{◌≡◌, ℕ, zero, suc, true, false, List, [], ◌∷◌, Some, None, length, refl, sym, ap, ◌∙◌, arith, slice_get, slice_set}
 use Rattle.unit_linker.specs.declared.graph.FileUses.{FileUses}
 use Rattle.unit_linker.specs.Graph.{interface_of, implementation_of}
 use Rattle.unit_linker.specs.Walk.{State, is_unmarked, each, when, placed, visit, visit_all, for_member, through}

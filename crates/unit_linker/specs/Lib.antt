@@ -5,3 +5,4 @@ pub mod Files
 pub mod Faults
 pub mod Slots
 pub mod Linked
+pub mod Laws

@@ -4,6 +4,7 @@
 mod cycle;
 mod fault;
 mod graph;
+pub mod laws;
 mod linking;
 mod marks;
 mod names;
@@ -13,4 +14,7 @@ mod taking;
 mod units;
 
 pub use fault::LinkFault;
-pub use linking::Linked;
+pub use linking::{Linked, link};
+
+#[cfg(test)]
+mod tests;

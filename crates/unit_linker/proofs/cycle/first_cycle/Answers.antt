@@ -1,4 +1,4 @@
-use Rattle.std.proofs.Common.{◌∙◌, ap, arith}
+use Rattle.std.proofs.Common.{ap, arith}
 use Rattle.std.specs.Option.{option_map}
 use Rattle.unit_linker.proofs.NoWay.{first_is, none_earlier, none_at_all}
 use Rattle.unit_linker.proofs.cycle.first_cycle.Goals as goal

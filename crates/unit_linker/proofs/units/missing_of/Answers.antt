@@ -1,4 +1,4 @@
-use Rattle.std.proofs.Common.{◌∙◌, sym, ap}
+use Rattle.std.proofs.Common.{◌∙◌, ap}
 use Rattle.std.specs.Option.{option_map}
 use Rattle.unit_linker.specs.Files.{first_missing}
 use Rattle.unit_linker.proofs.FileLemmas.{missing_in_first, missing_in_second}

@@ -1,4 +1,4 @@
-use Rattle.std.proofs.Common.{◌≡◌, ◌∙◌, ◌∷◌, [], ◌++◌, true, sym, arith, slice_set}
+use Rattle.std.proofs.Common.{◌≡◌, ◌∙◌, true, sym, arith, slice_set}
 use Rattle.unit_linker.specs.Graph.{interface_of}
 use Rattle.unit_linker.specs.Walk.{State, placed, visit_all}
 use Rattle.unit_linker.proofs.WalkSteps.{visit_deepest, visit_known, visit_new, visit_first, visit_none}

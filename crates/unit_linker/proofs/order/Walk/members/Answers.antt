@@ -1,4 +1,4 @@
-use Rattle.std.proofs.Common.{◌≡◌, ◌+◌, ◌-◌, ◌∙◌, length, sym, ap, arith}
+use Rattle.std.proofs.Common.{◌≡◌, ◌+◌, ◌-◌, ◌∙◌, length, sym, arith}
 use Rattle.unit_linker.specs.Graph.{implementation_of}
 use Rattle.unit_linker.specs.Walk.{State, visit_all}
 use Rattle.unit_linker.proofs.WalkSteps.{through_done, through_end, through_member}
