@@ -74,7 +74,8 @@ impl Machine {
         })
     }
 
-    /// How many steps the machine has done.
+    /// How many steps the machine has done. One that was stuck, or that a fault or want of memory cut
+    /// off, is not among them.
     pub fn taken(&self) -> u64
         ensures { result ≡ self.now.taken }
     {
@@ -218,6 +219,7 @@ impl Machine {
         ensures over { IsOver self.old self.new result }
         ensures taken { result ≡ Stepped.Going → self.new.taken ≡ self.old.taken + 1 }
         ensures end { self.new.input.over ≡ true → IsEmpty (I.left input.new) }
+        ensures untaken { self.old.input.over ≡ true → input.new ≡ input.old }
         ensures put_faults { PutFaults (O.faults out.old) (O.faults out.new) result }
         ensures take_faults { TakeFaults (I.faults input.old) (I.faults input.new) result }
     {
@@ -251,6 +253,7 @@ impl Machine {
         ensures is_for { IsFor program.now self.new }
         ensures taken { self.old.over ≡ None → result ≡ Stepped.Going → self.new.taken ≡ self.old.taken + 1 }
         ensures end { self.new.input.over ≡ true → IsEmpty (I.left input.new) }
+        ensures untaken { self.old.input.over ≡ true → input.new ≡ input.old }
         ensures put_faults { self.old.over ≡ None → PutFaults (O.faults out.old) (O.faults out.new) result }
         ensures take_faults { self.old.over ≡ None → TakeFaults (I.faults input.old) (I.faults input.new) result }
     {
