@@ -1,4 +1,3 @@
-pub mod ToldLemmas
 pub mod FrontLemmas
 pub mod Translations
 pub mod WriterLemmas

@@ -2,4 +2,3 @@ pub mod Messages
 pub mod Reading
 pub mod Translated
 pub mod Words
-pub mod Written

@@ -1,7 +1,7 @@
 -- The answers, their statuses and the lines on standard error.
 use Rattle.std.specs.Prelude.{◌≡◌, ℕ, List, [], ◌++◌, Option, codes}
 use Rattle.p2c_main.specs.Words.{name_asked}
-use Rattle.p2c_main.specs.Written.{Says}
+use Rattle.held_bytes.specs.Written.{Says}
 use Rattle.p2c_main.specs.declared.outcome.Outcome.{Outcome}
 use Rattle.p2c_main.specs.declared.outcome.Outcome.TheVariants.{Done, Usage, TooLong, Unbuilt, Missing, ReadFault, WriteFault, OutOfMemory}
 

@@ -5,7 +5,7 @@ use Rattle.p2c_outside.specs.Told.{Named, WhereTold, Gains}
 use Rattle.agreement.specs.Agrees.{Agrees}
 use Rattle.agreement.specs.Writers.{Writing, typed_writer}
 use Rattle.literal_writers.specs.Form.{IsWriter}
-use Rattle.p2c_main.specs.Written.{GainsPart}
+use Rattle.held_bytes.specs.Written.{GainsPart}
 
 -- the source is a program with these statements, and not too long
 abbrev pub Accepts : (source : List ℕ) → List Writing → Type 0

@@ -9,7 +9,6 @@ mod reading;
 mod tests;
 mod top;
 mod words;
-mod writing;
 
 use crate::outcome::Outcome;
 use crate::top::p2c;

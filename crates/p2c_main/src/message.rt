@@ -4,10 +4,10 @@ ghost use Rattle.std.specs.Prelude.{◌≡◌, OnOk, OnErr};
 ghost use Rattle.p2c_outside.specs.Counts.{Rose};
 ghost use Rattle.p2c_outside.specs.Told.{Gains};
 ghost use Rattle.p2c_main.specs.Messages.{message_of};
-ghost use Rattle.p2c_main.specs.Written.{GainsPart};
+ghost use Rattle.held_bytes.specs.Written.{GainsPart};
 
 use crate::outcome::Outcome;
-use crate::writing::{offer, offer_parts};
+use held_bytes::writing::{offer, offer_parts};
 use p2c_outside::{Failed, Sink};
 
 /// Writes the line for an answer about the file of this name. It takes no memory.

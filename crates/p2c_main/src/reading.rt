@@ -5,7 +5,7 @@ ghost use Rattle.p2c_outside.specs.Counts.{Rose};
 ghost use Rattle.p2c_outside.specs.Told.{WhereTold};
 ghost use Rattle.p2c_main.specs.Reading.{Lacks};
 
-use crate::writing::PIECE;
+use held_bytes::writing::PIECE;
 use p2c_outside::{FileFault, Files};
 use std::alloc::Global;
 

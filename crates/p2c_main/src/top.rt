@@ -7,14 +7,14 @@ ghost use Rattle.p2c_main.specs.Messages.{Reports, status_of};
 ghost use Rattle.p2c_main.specs.Reading.{Lacks, outcome_of};
 ghost use Rattle.p2c_main.specs.Words.{file_asked, name_asked};
 ghost use Rattle.p2c_main.specs.Translated.{Accepts, IsMade, IsTranslation, Translates, TranslatesPart, Refuses};
-ghost use Rattle.p2c_main.specs.Written.{GainsPart};
+ghost use Rattle.held_bytes.specs.Written.{GainsPart};
 
 use crate::lower::writer;
 use crate::message::report;
 use crate::outcome::Outcome;
 use crate::reading::{LONGEST_SOURCE, ReadRefusal, read_whole};
 use crate::words::{Words, asked_file};
-use crate::writing::offer;
+use held_bytes::writing::offer;
 use literal_writers::written_by;
 use p2c_outside::{Files, Sink, Source};
 use std::alloc::{AllocError, Global};
