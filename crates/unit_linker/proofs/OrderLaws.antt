@@ -114,7 +114,7 @@ behind_placed graph inner u b placed = record {
   by = λ w v a i. elim (among_cases inner u w a) [
     | inl c ↦ further inner (u ∷ []) v w (b.by w v c i)
     | inr e ↦ subst (λ x. StandsBefore (inner ++ u ∷ []) v x) e (record { front = inner; back = []; is = refl; among = placed v (subst (λ x. Among (interface_of graph x) v) (sym e) i) })
-  ]
+  ];
 }
 
 visits_behind : (graph : List FileUses) (us before after : List ℕ) → Visits graph us before after → Behind graph before → Behind graph after
