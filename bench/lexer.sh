@@ -4,6 +4,7 @@
 # and 8 MB of one byte no slower a byte than ordinary Pascal by more than a factor 3.
 set -eu
 top=$(cd "$(dirname "$0")/.." && pwd)
+. "$top/bench/best.sh"
 lexer=$top/crates/lexer_bench/out/lexer_bench
 [ -x "$lexer" ] || (cd "$top/crates/lexer_bench" && rt run -- data/p.pas > /dev/null)
 folder=$(mktemp -d)
@@ -16,29 +17,17 @@ ordinary() {
   awk -v program="$program" 'BEGIN { for (i = 0; ; i++) { text = program; gsub(/place/, "place" i % 97, text); print text } }' 2> /dev/null | head -c "$1"
 }
 
-best() {
-  local i start end took least=
-  for i in 1 2 3 4 5 6 7; do
-    start=$(date +%s%N)
-    "$@" > /dev/null
-    end=$(date +%s%N)
-    took=$(((end - start) / 1000))
-    if [ -z "$least" ] || [ "$took" -lt "$least" ]; then least=$took; fi
-  done
-  echo "$least"
-}
-
 set +o pipefail
 ordinary 8388000 > "$folder/8.pas" || true
 ordinary 1048500 > "$folder/1.pas" || true
-counted=$(best wc -w "$folder/8.pas")
-large=$(best "$lexer" "$folder/8.pas")
-small=$(best "$lexer" "$folder/1.pas")
+counted=$(best 7 wc -w "$folder/8.pas")
+large=$(best 7 "$lexer" "$folder/8.pas")
+small=$(best 7 "$lexer" "$folder/1.pas")
 echo "wc -w, 8 MB:          $counted us"
 echo "lexer, 8 MB:          $large us, $((large * 10 / counted)) tenths of wc"
 echo "lexer, 1 MB:          $small us; 8 MB takes $((large * 10 / small)) tenths of it"
 for byte in '{' '(' "'" 1; do
   head -c 8388000 /dev/zero | tr '\0' "$byte" > "$folder/one.pas"
-  took=$(best "$lexer" "$folder/one.pas")
+  took=$(best 7 "$lexer" "$folder/one.pas")
   echo "lexer, 8 MB of $byte:     $took us, $((took * 10 / large)) tenths of ordinary Pascal"
 done

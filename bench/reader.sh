@@ -4,29 +4,18 @@
 # and at most 60 bytes of memory for each byte of the text.
 set -eu
 top=$(cd "$(dirname "$0")/.." && pwd)
+. "$top/bench/best.sh"
 reader=$top/crates/reader_bench/out/reader_bench
 [ -x "$reader" ] || (cd "$top/crates/reader_bench" && rt run -- data/t.c > /dev/null)
 folder=$(mktemp -d)
 trap 'rm -r "$folder"' EXIT
 
-best() {
-  local i start end took least=
-  for i in 1 2 3 4 5; do
-    start=$(date +%s%N)
-    "$@" > /dev/null
-    end=$(date +%s%N)
-    took=$(((end - start) / 1000))
-    if [ -z "$least" ] || [ "$took" -lt "$least" ]; then least=$took; fi
-  done
-  echo "$least"
-}
-
 awk -v bytes=10000000 -f "$top/bench/c_text.awk" > "$folder/10.c"
 awk -v bytes=1000000 -f "$top/bench/c_text.awk" > "$folder/1.c"
 "$reader" "$folder/10.c"
-compiler=$(best gcc -std=c99 -fsyntax-only "$folder/10.c")
-large=$(best "$reader" "$folder/10.c")
-small=$(best "$reader" "$folder/1.c")
+compiler=$(best 5 gcc -std=c99 -fsyntax-only "$folder/10.c")
+large=$(best 5 "$reader" "$folder/10.c")
+small=$(best 5 "$reader" "$folder/1.c")
 memory=$({ /usr/bin/time -f %M "$reader" "$folder/10.c" > /dev/null; } 2>&1)
 echo "gcc -fsyntax-only, 10 MB: $compiler us"
 echo "reader, 10 MB:            $large us, gcc takes $((compiler * 10 / large)) tenths of it"

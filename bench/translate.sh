@@ -4,6 +4,7 @@
 # fpc takes at most some 7,280 `writeln`s in one body; of the 8 MB it is timed until it gives up.
 set -eu
 top=$(cd "$(dirname "$0")/.." && pwd)
+. "$top/bench/best.sh"
 program=$top/crates/p2c_main/out/p2c_main
 "$top/p2c" translate "$top/examples/hello.pas" > /dev/null
 folder=$(mktemp -d)
@@ -20,34 +21,24 @@ writer() {
   }'
 }
 
-# the time in microseconds; what went wrong is in the file err
-best() {
-  local start end took least=
-  for _ in 1 2 3; do
-    start=$(date +%s%N)
-    "$@" > "$folder/out" 2> "$folder/err" || echo "status $?" >> "$folder/err"
-    end=$(date +%s%N)
-    took=$(((end - start) / 1000))
-    if [ -z "$least" ] || [ "$took" -lt "$least" ]; then least=$took; fi
-  done
-  echo "$least"
+# fpc up to the assembler; what it says is in the file out
+compile() {
+  fpc -Miso -s "-FE$folder" "$1" > "$folder/out" 2>&1 || true
 }
 
 # times of both on the same text
 beside() {
   local ours theirs
-  ours=$(best "$program" translate "$folder/$1.pas")
-  cat "$folder/err"
-  theirs=$(best fpc -Miso -s "-FE$folder" "$folder/$1.pas")
-  echo "$1 ($(stat -c %s "$folder/$1.pas") bytes): p2c $ours us; fpc -s $theirs us, $((theirs * 10 / ours)) tenths; fpc: $(grep -h Fatal "$folder/out" | head -n 1)"
+  ours=$(best 3 "$program" translate "$folder/$1.pas")
+  theirs=$(best 3 compile "$folder/$1.pas")
+  echo "$1 ($(stat -c %s "$folder/$1.pas") bytes): p2c $ours us; fpc -s $theirs us, $((theirs * 10 / ours)) tenths; $(grep -h Fatal "$folder/out" | head -n 1)"
 }
 
 writer 4968 > "$folder/one.pas"
 writer 7200 > "$folder/most.pas"
 writer 39744 > "$folder/eight.pas"
-small=$(best "$program" translate "$folder/one.pas")
-large=$(best "$program" translate "$folder/eight.pas")
-cat "$folder/err"
+small=$(best 3 "$program" translate "$folder/one.pas")
+large=$(best 3 "$program" translate "$folder/eight.pas")
 echo "p2c, 1 MB:   $small us"
 echo "p2c, 8 MB:   $large us; $((large * 10 / small)) tenths of 1 MB"
 beside most
