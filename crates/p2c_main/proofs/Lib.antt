@@ -1,3 +1,7 @@
+pub mod Clauses
+pub mod Executions
 pub mod FrontLemmas
+pub mod Outcomes
+pub mod PlaceLine
 pub mod Translations
 pub mod WriterLemmas

@@ -1,6 +1,6 @@
 -- What is made of a source is its translation.
 use Rattle.std.proofs.Common.{◌≡◌, ℕ, ◌≤◌, List, [], length, Option, Some, None, ◌⊎◌, inl, inr, refl, subst, ◌∙◌, ap, arith}
-use Rattle.std.specs.Prelude.{unwrap_or, Result, Ok, Err, OnOk, OnErr}
+use Rattle.std.specs.Prelude.{Result, Ok, Err, OnOk, OnErr}
 use Rattle.std.specs.List.{AllByRecursion}
 use Rattle.p2c_text.specs.declared.dialect.Dialect.TheVariants.{Iso}
 use Rattle.p2c_outside.specs.Counts.{Rose}
@@ -12,13 +12,8 @@ use Rattle.agreement.specs.Writers.{Writing, all_bytes, writer_of}
 use Rattle.agreement.proofs.WritersAgree.{writers_follow}
 use Rattle.program_shape.proofs.Writers.{writers_have_shape}
 use Rattle.literal_writers.specs.Written.{IsRead}
-use Rattle.p2c_main.specs.Messages.{status_of}
-use Rattle.p2c_main.specs.Reading.{Lacks}
-use Rattle.p2c_main.specs.Words.{file_asked, name_asked}
-use Rattle.p2c_main.specs.declared.outcome.Outcome.{Outcome}
-use Rattle.p2c_main.specs.declared.outcome.Outcome.TheVariants.{Done, Usage, TooLong, Unbuilt, Missing, ReadFault, WriteFault, OutOfMemory}
 use Rattle.held_bytes.specs.Written.{GainsPart, Says}
-use Rattle.p2c_main.specs.Translated.{Accepts, IsTranslation, IsMade, Refuses, AsksForAccepted}
+use Rattle.p2c_main.specs.Translated.{Accepts, IsTranslation, IsMade, Refuses}
 
 -- the text of the program that writes what the source writes
 pub made : (source written text : List ℕ) (program : CProgram) → length source ≤ 8388608 → IsRead source (Some written) → AllByRecursion IsByte written
@@ -48,63 +43,6 @@ told_more (Some files) name P Q f h = has_more (files name) P Q f h
 
 pub refuses : (told : Option Named) (name source : List ℕ) → WhereTold told name (λ b. source ≡ b) → IsMade source None → Refuses told name
 refuses told name source whole none = told_more told name (λ b. source ≡ b) _ (λ b e. subst (λ s. IsMade s None) e none) whole
-
--- ---- statuses of one outcome
-
-pub done_status : (o : Outcome) → status_of o ≡ 0 → o ≡ Done
-done_status Done e = refl
-done_status Usage e = absurd (omega (arith, e))
-done_status TooLong e = absurd (omega (arith, e))
-done_status Unbuilt e = absurd (omega (arith, e))
-done_status Missing e = absurd (omega (arith, e))
-done_status ReadFault e = absurd (omega (arith, e))
-done_status WriteFault e = absurd (omega (arith, e))
-done_status OutOfMemory e = absurd (omega (arith, e))
-
-pub cut_status : (o : Outcome) → status_of o ≡ 244 → o ≡ WriteFault
-cut_status Done e = absurd (omega (arith, e))
-cut_status Usage e = absurd (omega (arith, e))
-cut_status TooLong e = absurd (omega (arith, e))
-cut_status Unbuilt e = absurd (omega (arith, e))
-cut_status Missing e = absurd (omega (arith, e))
-cut_status ReadFault e = absurd (omega (arith, e))
-cut_status WriteFault e = refl
-cut_status OutOfMemory e = absurd (omega (arith, e))
-
--- ---- completeness
-
--- a file that is there, with an accepted text, is neither lacking nor refused
-not_lacking : (told : Option Named) (words : List (List ℕ)) → AsksForAccepted told words → Lacks told (name_asked words) → ⊥
-not_lacking None words a lacks = a
-not_lacking (Some files) words (name, source, ws, asked, is, accepted) lacks =
-    let named : name_asked words ≡ name = ap (λ o. unwrap_or o []) asked in
-    let gone : files name ≡ None = subst (λ n. files n ≡ None) named lacks in
-    absurd cc
-
-not_refused : (told : Option Named) (words : List (List ℕ)) → AsksForAccepted told words → Refuses told (name_asked words) → ⊥
-not_refused None words a refused = a
-not_refused (Some files) words (name, source, ws, asked, is, accepted) refused =
-    let named : name_asked words ≡ name = ap (λ o. unwrap_or o []) asked in
-    subst (λ f. HasFile f (λ bytes. (ws : List Writing) → Accepts bytes ws → ⊥)) is (subst (λ n. Refuses (Some files) n) named refused) ws accepted
-
--- the words ask for something
-pub asks : (told : Option Named) (words : List (List ℕ)) → AsksForAccepted told words → file_asked words ≡ None → ⊥
-asks None words a none = a
-asks (Some files) words (name, source, ws, asked, is, accepted) none = absurd cc
-
--- where no fault rose, the translation is done, or memory was wanting
-pub completed : (told : Option Named) (words : List (List ℕ)) (o : Outcome) (read write : Type 0) → AsksForAccepted told words → (read → ⊥) → (write → ⊥)
-    → (o ≡ Usage → ⊥) → (o ≡ Missing → Lacks told (name_asked words)) → (o ≡ ReadFault → read) → (o ≡ WriteFault → write)
-    → (o ≡ TooLong → Refuses told (name_asked words)) → (o ≡ Unbuilt → Refuses told (name_asked words))
-    → (status_of o ≡ 0) ⊎ (status_of o ≡ 245)
-completed told words Done read write a r w usage missing rf wf long unbuilt = inl refl
-completed told words OutOfMemory read write a r w usage missing rf wf long unbuilt = inr refl
-completed told words Usage read write a r w usage missing rf wf long unbuilt = absurd (usage refl)
-completed told words Missing read write a r w usage missing rf wf long unbuilt = absurd (not_lacking told words a (missing refl))
-completed told words ReadFault read write a r w usage missing rf wf long unbuilt = absurd (r (rf refl))
-completed told words WriteFault read write a r w usage missing rf wf long unbuilt = absurd (w (wf refl))
-completed told words TooLong read write a r w usage missing rf wf long unbuilt = absurd (not_refused told words a (long refl))
-completed told words Unbuilt read write a r w usage missing rf wf long unbuilt = absurd (not_refused told words a (unbuilt refl))
 
 -- ---- the line on standard error
 

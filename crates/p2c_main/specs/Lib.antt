@@ -1,3 +1,5 @@
+pub mod Answers
+pub mod Executed
 pub mod Messages
 pub mod Reading
 pub mod Translated

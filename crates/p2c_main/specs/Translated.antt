@@ -1,5 +1,5 @@
 -- Which texts are accepted, and what their translation is.
-use Rattle.std.specs.Prelude.{◌≡◌, ℕ, ◌≤◌, Option, None, Some, List, length}
+use Rattle.std.specs.Prelude.{◌≡◌, ℕ, ◌≤◌, Option, None, Some, List, length, ⊤}
 use Rattle.p2c_text.specs.declared.dialect.Dialect.TheVariants.{Iso}
 use Rattle.p2c_outside.specs.Told.{Named, WhereTold, Gains}
 use Rattle.agreement.specs.Agrees.{Agrees}
@@ -8,7 +8,9 @@ use Rattle.program_shape.specs.OfTyped.{outline_of}
 use Rattle.program_shape.specs.Shape.{Shape}
 use Rattle.program_shape.specs.Laws.{NothingPerforms}
 use Rattle.literal_writers.specs.Form.{IsWriter}
-use Rattle.p2c_main.specs.Words.{file_asked}
+use Rattle.p2c_main.specs.Words.{Translating, task_asked}
+use Rattle.p2c_main.specs.declared.outcome.Outcome.{Outcome}
+use Rattle.p2c_main.specs.declared.outcome.Outcome.TheVariants.{Ended, Usage, BadText, Spent, Stuck}
 use Rattle.held_bytes.specs.Written.{GainsPart}
 
 -- the source is a program with these statements, and not too long
@@ -39,7 +41,16 @@ TranslatesPart told name old new = (source text : List ℕ) × WhereTold told na
 abbrev pub Refuses : Option Named → (name : List ℕ) → Type 0
 Refuses told name = WhereTold told name (λ bytes. (ws : List Writing) → Accepts bytes ws → ⊥)
 
--- the words ask for a file that is told, and its text is accepted
+-- the words ask to translate a file that is told, and its text is accepted
 abbrev pub AsksForAccepted : Option Named → (words : List (List ℕ)) → Type 0
 AsksForAccepted None words = ⊥
-AsksForAccepted (Some files) words = (name source : List ℕ) × (ws : List Writing) × (file_asked words ≡ Some name) × (files name ≡ Some source) × Accepts source ws
+AsksForAccepted (Some files) words = (name source : List ℕ) × (ws : List Writing) × (task_asked words ≡ Some (Translating name)) × (files name ≡ Some source) × Accepts source ws
+
+-- an answer of a translation
+abbrev pub IsOfTranslation : Outcome → Type 0
+IsOfTranslation (Ended status) = ⊥
+IsOfTranslation Usage = ⊥
+IsOfTranslation (BadText kind line) = ⊥
+IsOfTranslation Spent = ⊥
+IsOfTranslation (Stuck kind) = ⊥
+IsOfTranslation _ = ⊤

@@ -1,6 +1,7 @@
 //! p2c: old Pascal programs carried to C.
 #![tactic(auto)]
 
+mod execution;
 mod lower;
 mod message;
 mod outcome;
@@ -8,6 +9,7 @@ mod reading;
 #[cfg(test)]
 mod tests;
 mod top;
+mod translation;
 mod words;
 
 use crate::outcome::Outcome;

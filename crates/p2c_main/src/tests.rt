@@ -2,7 +2,7 @@ ghost use Rattle.std.specs.Prelude.{◌≤◌};
 
 use crate::top::p2c;
 use crate::words::Words;
-use p2c_outside::{CalmSource, MemoryFiles, MemorySink};
+use p2c_outside::{CalmSource, MemoryFiles, MemorySink, MemorySource};
 use p2c_text::Text;
 use std::alloc::{AllocError, Global};
 use std::test::Fail;
@@ -148,13 +148,15 @@ fn all_other_texts_are_refused_and_nothing_is_written(rt: HostRuntime) -> Result
 
 #[test]
 fn words_that_ask_for_nothing_get_the_usage(rt: HostRuntime) -> Result<(), Fail> {
-    let asked: [&[&str]; 6] = [
+    let asked: [&[&str]; 8] = [
         &[],
         &["frob"],
         &["translate"],
         &["translate", "-a.pas"],
         &["translate", "a.pas", "a.pas"],
         &["TRANSLATE", "a.pas"],
+        &["run", "a.pas", "a.pas"],
+        &["run", "--steps", "0", "a.pas"],
     ];
     for words in asked {
         let source = Vec::from_slice(rt.alloc(), b"program p; begin end.")?;
@@ -204,5 +206,148 @@ fn a_text_of_one_byte_over_the_limit_is_too_long(rt: HostRuntime) -> Result<(), 
         assert_eq!(rt; answer.err.as_slice(), line.as_bytes());
         assert_eq!(rt; answer.out.len(), 0);
     }
+    Ok(())
+}
+
+/// A run of a C text: what is asked for, over which input, in pieces of which size, and which call
+/// of the files, the input and the output fails. Calls count from 1, so 0 is no call.
+struct Scene<'a> {
+    steps: &'a str,
+    body: &'a str,
+    input: &'a str,
+    piece: usize,
+    failing_read: u64,
+    failing_take: u64,
+    failing_put: u64,
+}
+
+fn run_scene(alloc: Global, scene: &Scene<'_>) -> Result<Answer, AllocError>
+    requires { 1 ≤ scene.now.piece }
+{
+    let words = words_of(alloc, &["run", "--steps", scene.steps, "a.pas"])?;
+    let text = format!(in alloc; "{HEAD}{}", scene.body)?;
+    let source = Vec::from_slice(alloc, text.as_bytes())?;
+    let mut files = files_of(alloc, source, scene.failing_read)?;
+    let mut input = MemorySource {
+        bytes: Vec::from_slice(alloc, scene.input.as_bytes())?,
+        at: 0,
+        most: scene.piece,
+        calls: 0,
+        fail: vec![in alloc; scene.failing_take]?,
+        faults: 0,
+    };
+    let fail = vec![in alloc; scene.failing_put]?;
+    let mut out = MemorySink::new(alloc, 4096, scene.piece, fail)?;
+    let mut err = MemorySink::new(alloc, 4096, 7, Vec::new(alloc))?;
+    let status = p2c(alloc, &words, &mut files, &mut input, &mut out, &mut err);
+    Ok(Answer {
+        status,
+        out: out.bytes,
+        err: err.bytes,
+    })
+}
+
+#[test]
+fn c_texts_are_run(rt: HostRuntime) -> Result<(), Fail> {
+    for (body, input, status, line, out) in [
+        (
+            "int main(void) { putchar(INT64_C(72)); return INT64_C(3); }\n",
+            "",
+            3,
+            "",
+            "H",
+        ),
+        (
+            "int main(void) { int64_t c; c = getchar(); putchar(c); c = getchar(); putchar(c); return INT64_C(209); }\n",
+            "xyz",
+            209,
+            "",
+            "xy",
+        ),
+        (
+            "int main(void) { putchar(INT64_C(72)); while (INT64_C(1)) { } }\n",
+            "",
+            246,
+            "p2c: steps spent\n",
+            "H",
+        ),
+        (
+            "int main(void) { int64_t c; putchar(INT64_C(72)); putchar(c); return INT64_C(0); }\n",
+            "",
+            247,
+            "p2c: undefined in C: Indeterminate\n",
+            "H",
+        ),
+        (
+            "int main(void) {\n  putchar();\n}\n",
+            "",
+            241,
+            "a.pas:6: C Unexpected\n",
+            "",
+        ),
+        (
+            "int main(void) {\n\n  @\n}\n",
+            "",
+            241,
+            "a.pas:7: C BadByte\n",
+            "",
+        ),
+    ] {
+        for piece in [1, 4096] {
+            let scene = Scene {
+                steps: "100",
+                body,
+                input,
+                piece,
+                failing_read: 0,
+                failing_take: 0,
+                failing_put: 0,
+            };
+            let answer = run_scene(rt.alloc(), &scene)?;
+            assert_eq!(rt; answer.err.as_slice(), line.as_bytes());
+            assert_eq!(rt; answer.status, status);
+            assert_eq!(rt; answer.out.as_slice(), out.as_bytes());
+        }
+    }
+    Ok(())
+}
+
+#[test]
+fn faults_in_a_run_are_answered(rt: HostRuntime) -> Result<(), Fail> {
+    let body =
+        "int main(void) { int64_t c; putchar(INT64_C(72)); c = getchar(); putchar(c); return INT64_C(0); }\n";
+    for (failing_read, failing_take, failing_put, status, line, out) in [
+        (1, 0, 0, 243, "p2c: read fault\n", ""),
+        (2, 0, 0, 243, "p2c: read fault\n", ""),
+        (0, 1, 0, 243, "p2c: read fault\n", "H"),
+        (0, 2, 0, 0, "", "Hx"),
+        (0, 0, 1, 244, "p2c: write fault\n", ""),
+        (0, 0, 2, 244, "p2c: write fault\n", "H"),
+        (0, 0, 3, 0, "", "Hx"),
+    ] {
+        let scene = Scene {
+            steps: "100",
+            body,
+            input: "x",
+            piece: 10,
+            failing_read,
+            failing_take,
+            failing_put,
+        };
+        let answer = run_scene(rt.alloc(), &scene)?;
+        assert_eq!(rt; answer.err.as_slice(), line.as_bytes());
+        assert_eq!(rt; answer.status, status);
+        assert_eq!(rt; answer.out.as_slice(), out.as_bytes());
+    }
+    Ok(())
+}
+
+#[test]
+fn a_c_text_of_one_byte_over_the_limit_is_too_long(rt: HostRuntime) -> Result<(), Fail> {
+    let source = vec![in rt.alloc(); b' '; 67_108_865]?;
+    let answer = run(rt.alloc(), &["run", "a.pas"], source, 0, 9, 0)?;
+    assert_eq!(rt; answer.status, 241);
+    assert_eq!(rt; answer.err.as_slice(), b"p2c: text too long\n".as_slice());
+    assert_eq!(rt; answer.out.len(), 0);
     Ok(())
 }

@@ -1,21 +1,18 @@
 //! The top call.
 
-ghost use Rattle.std.specs.Prelude.{◌≡◌, ◌≢◌, ◌≤◌, ◌↔◌, ◌⊎◌, None, IfOk, option_map, length};
+ghost use Rattle.std.specs.Prelude.{◌≡◌, ◌≢◌, ◌⊎◌, ℕ, None, Some, IfErr, Option, List};
 ghost use Rattle.p2c_outside.specs.Counts.{Rose};
-ghost use Rattle.p2c_outside.specs.Told.{Gains};
-ghost use Rattle.p2c_main.specs.Messages.{Reports, status_of};
-ghost use Rattle.p2c_main.specs.Reading.{Lacks, outcome_of};
-ghost use Rattle.p2c_main.specs.Words.{file_asked, name_asked};
-ghost use Rattle.p2c_main.specs.Translated.{Accepts, AsksForAccepted, IsMade, IsTranslation, Translates, TranslatesPart, Refuses};
-ghost use Rattle.held_bytes.specs.Written.{GainsPart};
+ghost use Rattle.p2c_main.specs.Answers.{Answer, Counts, Reports, RunFault, Stays};
+ghost use Rattle.p2c_main.specs.Executed.{AsksForText, CutsOff, EndsWith, IsOfRun, MayExecutePart, NotRun, OfFile, ReadFails};
+ghost use Rattle.p2c_main.specs.Reading.{Lacks};
+ghost use Rattle.p2c_main.specs.Words.{Finds, IsRunning, Running, Task, Translating, name_asked, seen, task_asked};
+ghost use Rattle.p2c_main.specs.Translated.{AsksForAccepted, Translates, TranslatesPart, Refuses};
 
-use crate::lower::writer;
+use crate::execution::execute;
 use crate::message::report;
 use crate::outcome::Outcome;
-use crate::reading::{LONGEST_SOURCE, ReadRefusal, read_whole};
-use crate::words::{Words, asked_file, name_or_nothing};
-use held_bytes::writing::offer;
-use literal_writers::written_by;
+use crate::translation::translate;
+use crate::words::{Chosen, Words, asked_task, name_or_nothing};
 use p2c_outside::{Files, Sink, Source};
 use std::alloc::{AllocError, Global};
 
@@ -30,114 +27,118 @@ pub fn p2c<F: Files, I: Source, O: Sink, E: Sink>(
     err: &mut E,
 ) -> u8
     // the causes of each answer
-    ensures usage { result ≡ 240 → file_asked words.now ≡ None }
-    ensures asked { file_asked words.now ≡ None → (result ≡ 240) ⊎ (result ≡ 245) }
+    ensures usage { result ≡ 240 → task_asked words.now ≡ None }
+    ensures asked { task_asked words.now ≡ None → (result ≡ 240) ⊎ (result ≡ 245) }
     ensures missing { result ≡ 242 → Rose (F.missing files.old) (F.missing files.new) }
     ensures absent { result ≡ 242 → Lacks (F.told files.old) (name_asked words.now) }
-    ensures read_fault { result ≡ 243 → Rose (F.faults files.old) (F.faults files.new) }
+    ensures read_fault { result ≡ 243 → Rose (F.faults files.old) (F.faults files.new)
+        ⊎ (IsRunning (task_asked words.now) × Rose (I.faults input.old) (I.faults input.new)) }
     ensures write_fault { result ≡ 244 → Rose (O.faults out.old) (O.faults out.new) }
 
-    // which texts are accepted, and what the output took
-    ensures refused { result ≡ 241 → Refuses (F.told files.old) (name_asked words.now) }
-    ensures done { result ≡ 0 →
-        Translates (F.told files.old) (name_asked words.now) (O.written out.old) (O.written out.new) }
-    ensures cut { result ≡ 244 →
-        TranslatesPart (F.told files.old) (name_asked words.now) (O.written out.old) (O.written out.new) }
+    // a translation: which texts are accepted, and what the output took
+    ensures refused { (name : List ℕ) → task_asked words.now ≡ Some (Translating name) →
+        result ≡ 241 → Refuses (F.told files.old) name }
+    ensures done { (name : List ℕ) → task_asked words.now ≡ Some (Translating name) →
+        result ≡ 0 → Translates (F.told files.old) name (O.written out.old) (O.written out.new) }
+    ensures cut { (name : List ℕ) → task_asked words.now ≡ Some (Translating name) →
+        result ≡ 244 → TranslatesPart (F.told files.old) name (O.written out.old) (O.written out.new) }
 
     // where no fault rose, an accepted text is translated, or memory was wanting
     ensures complete { AsksForAccepted (F.told files.old) words.now →
         (Rose (F.faults files.old) (F.faults files.new) → ⊥) → (Rose (O.faults out.old) (O.faults out.new) → ⊥) →
         (result ≡ 0) ⊎ (result ≡ 245) }
 
+    // a run: the status and the output are those of the file's program
+    ensures ran { (steps : ℕ) (name : List ℕ) → task_asked words.now ≡ Some (Running steps name) →
+        IsOfRun result → EndsWith result (F.told files.old) name steps (I.left input.old) (O.written out.old) (O.written out.new) }
+    ensures not_run { (steps : ℕ) (name : List ℕ) → task_asked words.now ≡ Some (Running steps name) →
+        result ≡ 241 → NotRun (F.told files.old) name }
+    ensures run_cut { (steps : ℕ) (name : List ℕ) → task_asked words.now ≡ Some (Running steps name) →
+        result ≡ 244 → OfFile (F.told files.old) name (λ source. CutsOff source steps (I.left input.old) (O.written out.old) (O.written out.new)) }
+    ensures run_fault { (steps : ℕ) (name : List ℕ) → task_asked words.now ≡ Some (Running steps name) →
+        result ≡ 243 → ReadFails (Rose (F.faults files.old) (F.faults files.new)) (Rose (I.faults input.old) (I.faults input.new))
+        ((input.new ≡ input.old) × (out.new ≡ out.old))
+        (F.told files.old) name steps (I.left input.old) (O.written out.old) (O.written out.new) }
+    ensures run_part { (steps : ℕ) (name : List ℕ) → task_asked words.now ≡ Some (Running steps name) →
+        result ≡ 245 → MayExecutePart (F.told files.old) name steps (I.left input.old) (O.written out.old) (O.written out.new) }
+
+    // where no fault rose, a text is run, or memory was wanting
+    ensures run_complete { AsksForText (F.told files.old) words.now →
+        (Rose (F.faults files.old) (F.faults files.new) → ⊥) → (Rose (I.faults input.old) (I.faults input.new) → ⊥) →
+        (Rose (O.faults out.old) (O.faults out.new) → ⊥) → IsOfRun result ⊎ (result ≡ 245) }
+
     // no fault is swallowed
     ensures none_missing { result ≢ 242 → result ≢ 243 → F.missing files.new ≡ F.missing files.old }
     ensures no_read_fault { result ≢ 242 → result ≢ 243 → F.faults files.new ≡ F.faults files.old }
+    ensures no_input_fault { result ≢ 243 → result ≢ 244 → I.faults input.new ≡ I.faults input.old }
     ensures no_write_fault { result ≢ 244 → O.faults out.new ≡ O.faults out.old }
 
     // what stays as it was
-    ensures untouched { result ≢ 0 → result ≢ 244 → out.new ≡ out.old }
     ensures unread { result ≡ 240 → files.new ≡ files.old }
-    ensures input { input.new ≡ input.old }
+    ensures early { (result ≡ 240) ⊎ (result ≡ 241) ⊎ (result ≡ 242) → (input.new ≡ input.old) × (out.new ≡ out.old) }
+    ensures untouched { (IsRunning (task_asked words.now) → ⊥) → result ≢ 0 → result ≢ 244 → out.new ≡ out.old }
+    ensures input { (IsRunning (task_asked words.now) → ⊥) → input.new ≡ input.old }
     ensures same { F.told files.new ≡ F.told files.old }
 
     // the line on standard error
-    ensures message { Reports result words.now
+    ensures message { Reports result words.now (F.told files.old) (I.left input.old) (O.written out.old) (O.written out.new)
         (E.written err.old) (E.written err.new) (E.faults err.old) (E.faults err.new) }
 {
-    let asked = asked_file(alloc, words);
-    let outcome = match asked {
-        Ok(Some(name)) => translate(alloc, files, name, out),
-        Ok(None) => Outcome::Usage,
-        Err(AllocError) => Outcome::OutOfMemory,
-    };
+    let asked = asked_task(alloc, words);
+    let outcome = attempt(alloc, &asked, files, input, out);
     let _ = report(err, outcome, name_or_nothing(&asked));
     outcome.status()
 }
 
-fn translate<F: Files, O: Sink>(alloc: Global, files: &mut F, name: &str, out: &mut O) -> Outcome
-    ensures asked { result ≢ Outcome.Usage }
-    ensures missing { result ≡ Outcome.Missing → Rose (F.missing files.old) (F.missing files.new) }
-    ensures absent { result ≡ Outcome.Missing → Lacks (F.told files.old) name.now }
-    ensures read_fault { result ≡ Outcome.ReadFault → Rose (F.faults files.old) (F.faults files.new) }
-    ensures write_fault { result ≡ Outcome.WriteFault → Rose (O.faults out.old) (O.faults out.new) }
-    ensures too_long { result ≡ Outcome.TooLong → Refuses (F.told files.old) name.now }
-    ensures unbuilt { result ≡ Outcome.Unbuilt → Refuses (F.told files.old) name.now }
-    ensures done { result ≡ Outcome.Done →
-        Translates (F.told files.old) name.now (O.written out.old) (O.written out.new) }
-    ensures cut { result ≡ Outcome.WriteFault →
-        TranslatesPart (F.told files.old) name.now (O.written out.old) (O.written out.new) }
-
-    ensures none_missing { result ≢ Outcome.Missing → result ≢ Outcome.ReadFault →
-        F.missing files.new ≡ F.missing files.old }
-    ensures no_read_fault { result ≢ Outcome.Missing → result ≢ Outcome.ReadFault →
-        F.faults files.new ≡ F.faults files.old }
-    ensures no_write_fault { result ≢ Outcome.WriteFault → O.faults out.new ≡ O.faults out.old }
-    ensures untouched { result ≢ Outcome.Done → result ≢ Outcome.WriteFault → out.new ≡ out.old }
+/// Does what was asked for, where memory sufficed to find it.
+fn attempt<F: Files, I: Source, O: Sink>(
+    alloc: Global,
+    asked: &Result<Option<Chosen<'_>>, AllocError>,
+    files: &mut F,
+    input: &mut I,
+    out: &mut O,
+) -> Outcome
+    ensures answers { (task : Option Task) → Finds asked.now task →
+        Answer (F.told files.old) task (I.left input.old) (O.written out.old) (O.written out.new) result }
+    ensures counts { (task : Option Task) → Finds asked.now task →
+        Counts task (F.missing files.old) (F.missing files.new) (F.faults files.old) (F.faults files.new)
+        (I.faults input.old) (I.faults input.new) (O.faults out.old) (O.faults out.new) result }
+    ensures stays { (task : Option Task) → Finds asked.now task →
+        Stays task input.old input.new out.old out.new result }
+    ensures run_fault { (task : Option Task) → Finds asked.now task →
+        RunFault task (Rose (F.faults files.old) (F.faults files.new)) (Rose (I.faults input.old) (I.faults input.new))
+        ((input.new ≡ input.old) × (out.new ≡ out.old))
+        (F.told files.old) (I.left input.old) (O.written out.old) (O.written out.new) result }
+    ensures wanting { IfErr asked.now (λ error. result ≡ Outcome.OutOfMemory) }
+    ensures unread { result ≡ Outcome.Usage → files.new ≡ files.old }
     ensures same { F.told files.new ≡ F.told files.old }
 {
-    let source = match read_whole(alloc, files, name) {
-        Ok(source) => source,
-        Err(refusal) => return refused(refusal),
-    };
-    match translated(alloc, &source) {
-        Ok(Some(text)) => written(out, &text),
-        Ok(None) => Outcome::Unbuilt,
-        Err(AllocError) => Outcome::OutOfMemory,
+    match asked {
+        Ok(Some(task)) => perform(alloc, task, files, input, out),
+        Ok(None) => Outcome::Usage,
+        Err(_) => Outcome::OutOfMemory,
     }
 }
 
-fn refused(refusal: ReadRefusal) -> Outcome
-    ensures { result ≡ outcome_of refusal }
+fn perform<F: Files, I: Source, O: Sink>(
+    alloc: Global,
+    task: &Chosen<'_>,
+    files: &mut F,
+    input: &mut I,
+    out: &mut O,
+) -> Outcome
+    ensures asked { result ≢ Outcome.Usage }
+    ensures answers { Answer (F.told files.old) (Some (seen task.now)) (I.left input.old) (O.written out.old) (O.written out.new) result }
+    ensures counts { Counts (Some (seen task.now)) (F.missing files.old) (F.missing files.new) (F.faults files.old) (F.faults files.new)
+        (I.faults input.old) (I.faults input.new) (O.faults out.old) (O.faults out.new) result }
+    ensures stays { Stays (Some (seen task.now)) input.old input.new out.old out.new result }
+    ensures run_fault { RunFault (Some (seen task.now)) (Rose (F.faults files.old) (F.faults files.new)) (Rose (I.faults input.old) (I.faults input.new))
+        ((input.new ≡ input.old) × (out.new ≡ out.old))
+        (F.told files.old) (I.left input.old) (O.written out.old) (O.written out.new) result }
+    ensures same { F.told files.new ≡ F.told files.old }
 {
-    match refusal {
-        ReadRefusal::Missing => Outcome::Missing,
-        ReadRefusal::Failed => Outcome::ReadFault,
-        ReadRefusal::TooLong => Outcome::TooLong,
-        ReadRefusal::OutOfMemory => Outcome::OutOfMemory,
-    }
-}
-
-/// The C text, or `None` where the Pascal text is none of the form that is built.
-fn translated(alloc: Global, source: &[u8]) -> Result<Option<Vec<u8>>, AllocError>
-    requires { length source.now ≤ LONGEST_SOURCE }
-    ensures { IfOk result (λ found. IsMade source.now (option_map (λ text. text.items) found)) }
-{
-    let Some(written) = written_by(alloc, source)? else {
-        return Ok(None);
-    };
-    let program = writer(alloc, &written)?;
-    Ok(Some(c_printer::print(alloc, &program)?))
-}
-
-fn written<O: Sink>(out: &mut O, text: &[u8]) -> Outcome
-    ensures either { (result ≡ Outcome.Done) ⊎ (result ≡ Outcome.WriteFault) }
-    ensures done { result ≡ Outcome.Done → Gains (O.written out.old) (O.written out.new) text.now }
-    ensures cut { result ≡ Outcome.WriteFault → GainsPart (O.written out.old) (O.written out.new) text.now }
-    ensures write_fault { result ≡ Outcome.WriteFault → Rose (O.faults out.old) (O.faults out.new) }
-    ensures no_write_fault { result ≢ Outcome.WriteFault → O.faults out.new ≡ O.faults out.old }
-{
-    match offer(out, text) {
-        Ok(()) => Outcome::Done,
-        Err(_) => Outcome::WriteFault,
+    match task {
+        Chosen::Translating(name) => translate(alloc, files, name, out),
+        Chosen::Running(steps, name) => execute(alloc, files, name, *steps, input, out),
     }
 }

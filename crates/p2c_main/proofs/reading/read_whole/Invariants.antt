@@ -1,10 +1,10 @@
-use Rattle.std.proofs.Common.{◌≡◌, ◌≤◌, ◌-◌, vec_len}
+use Rattle.std.proofs.Common.{◌≡◌, ◌≤◌, ◌+◌, ◌-◌, vec_len}
 use Rattle.p2c_main.proofs.FrontLemmas.{IsFront}
 use Rattle.p2c_main.proofs.reading.read_whole.Given as goal
 
 abbrev pub invariant-loop-count : goal.invariant-loop-count
 invariant-loop-count g l = record {
-  bounded : vec_len l.bytes ≤ 8388608;
+  bounded : vec_len l.bytes ≤ l.limit;
   front : IsFront (g.F.Files.told l.initial.files) l.name l.bytes.items;
   same : g.F.Files.told l.files ≡ g.F.Files.told l.initial.files;
   none_missing : g.F.Files.missing l.files ≡ g.F.Files.missing l.initial.files;
@@ -12,4 +12,4 @@ invariant-loop-count g l = record {
 }
 
 abbrev pub decreases-loop-count : goal.decreases-loop-count
-decreases-loop-count g l = 8388609 - vec_len l.bytes
+decreases-loop-count g l = l.limit + 1 - vec_len l.bytes

@@ -1,80 +1,92 @@
-use Rattle.std.proofs.Common.{◌≡◌, ◌⊎◌, inr, [], sym, ap, subst, ◌∙◌}
-use Rattle.std.specs.Prelude.{unwrap_or, IfOk, OnOk, OnErr}
-use Rattle.std.specs.Option.{option_copied}
-use Rattle.p2c_outside.specs.Counts.{Rose}
-use Rattle.p2c_outside.specs.Told.{Gains}
-use Rattle.p2c_main.specs.Messages.{status_of, message_of}
-use Rattle.held_bytes.specs.Written.{GainsPart}
-use Rattle.p2c_main.specs.Reading.{Lacks}
-use Rattle.p2c_main.specs.Translated.{Translates, TranslatesPart, Refuses}
-use Rattle.p2c_main.specs.Words.{file_asked, name_asked}
-use Rattle.p2c_main.proofs.Translations.{done_status, cut_status, asks, completed, says}
-use Rattle.p2c_main.proofs.top.p2c.Goals.{in-Ok-Some, in-Ok-None, in-Err}
+use Rattle.std.proofs.Common.{subst}
+use Rattle.held_bytes.specs.Written.{Says}
+use Rattle.p2c_main.specs.Messages.{message_of}
+use Rattle.p2c_main.specs.Words.{task_asked}
+use Rattle.p2c_main.proofs.Translations.{says}
+use Rattle.p2c_main.proofs.Clauses.{usage_of, asked_of, absent_of, refused_of, done_of, cut_of, ran_of, not_run_of, run_cut_of, run_part_of, run_fault_of, missing_of, read_fault_of, write_fault_of, none_missing_of, no_read_fault_of, no_input_fault_of, no_write_fault_of, complete_of, run_complete_of, early_of, untouched_of, same_message}
 use Rattle.p2c_main.proofs.top.p2c.Goals as goal
 
+pub returns-clause-usage : goal.returns-clause-usage
+returns-clause-usage g c = usage_of (c.attempt-outcome.ensures.answers (task_asked c.args.words.now) c.asked_task-asked.ensures) c.status.ensures
+
+pub returns-clause-asked : goal.returns-clause-asked
+returns-clause-asked g c = asked_of (c.attempt-outcome.ensures.answers (task_asked c.args.words.now) c.asked_task-asked.ensures) c.status.ensures
+
+pub returns-clause-absent : goal.returns-clause-absent
+returns-clause-absent g c = absent_of (c.attempt-outcome.ensures.answers (task_asked c.args.words.now) c.asked_task-asked.ensures) c.status.ensures
+
+pub returns-clause-refused : goal.returns-clause-refused
+returns-clause-refused g c = refused_of (c.attempt-outcome.ensures.answers (task_asked c.args.words.now) c.asked_task-asked.ensures) c.status.ensures
+
 pub returns-clause-done : goal.returns-clause-done
-returns-clause-done g c = λ e. elim c.match-asked.branch [
-  | in-Ok-Some w ↦
-      let done = sym w.outcome-is ∙ done_status c.match-asked.outcome (sym c.status.ensures ∙ e) in
-      let told = g.F.Files.told c.args.files.now in
-      let old = g.O.Sink.written c.args.out.now in
-      let named : w.in-Ok-Some.name.now ≡ name_asked c.args.words.now = ap (λ o. unwrap_or o []) (sym (ap option_copied (rw w.in-Ok-Some.is at w.in-Ok-Some.field-0-is)) ∙ subst (λ a. IfOk a (λ n. option_copied n ≡ file_asked c.args.words.now)) w.in-Ok-Some.is c.asked_file-asked.ensures) in
-      subst (λ n. Translates told n old (g.O.Sink.written c.match-asked.out)) named
-      (subst (λ o. Translates told w.in-Ok-Some.name.now old (g.O.Sink.written o)) (sym w.out-is) (w.translate-outcome.ensures.done done))
-  | in-Ok-None w ↦ absurd (let k = sym w.outcome-is ∙ done_status c.match-asked.outcome (sym c.status.ensures ∙ e) in cc)
-  | in-Err w ↦ absurd (let k = sym w.outcome-is ∙ done_status c.match-asked.outcome (sym c.status.ensures ∙ e) in cc)
-]
+returns-clause-done g c = done_of (c.attempt-outcome.ensures.answers (task_asked c.args.words.now) c.asked_task-asked.ensures) c.status.ensures
 
 pub returns-clause-cut : goal.returns-clause-cut
-returns-clause-cut g c = λ e. elim c.match-asked.branch [
-  | in-Ok-Some w ↦
-      let cut = sym w.outcome-is ∙ cut_status c.match-asked.outcome (sym c.status.ensures ∙ e) in
-      let told = g.F.Files.told c.args.files.now in
-      let old = g.O.Sink.written c.args.out.now in
-      let named : w.in-Ok-Some.name.now ≡ name_asked c.args.words.now = ap (λ o. unwrap_or o []) (sym (ap option_copied (rw w.in-Ok-Some.is at w.in-Ok-Some.field-0-is)) ∙ subst (λ a. IfOk a (λ n. option_copied n ≡ file_asked c.args.words.now)) w.in-Ok-Some.is c.asked_file-asked.ensures) in
-      subst (λ n. TranslatesPart told n old (g.O.Sink.written c.match-asked.out)) named
-      (subst (λ o. TranslatesPart told w.in-Ok-Some.name.now old (g.O.Sink.written o)) (sym w.out-is) (w.translate-outcome.ensures.cut cut))
-  | in-Ok-None w ↦ absurd (let k = sym w.outcome-is ∙ cut_status c.match-asked.outcome (sym c.status.ensures ∙ e) in cc)
-  | in-Err w ↦ absurd (let k = sym w.outcome-is ∙ cut_status c.match-asked.outcome (sym c.status.ensures ∙ e) in cc)
-]
+returns-clause-cut g c = cut_of (c.attempt-outcome.ensures.answers (task_asked c.args.words.now) c.asked_task-asked.ensures) c.status.ensures
+
+pub returns-clause-ran : goal.returns-clause-ran
+returns-clause-ran g c = ran_of (c.attempt-outcome.ensures.answers (task_asked c.args.words.now) c.asked_task-asked.ensures) c.status.ensures
+
+pub returns-clause-not_run : goal.returns-clause-not_run
+returns-clause-not_run g c = not_run_of (c.attempt-outcome.ensures.answers (task_asked c.args.words.now) c.asked_task-asked.ensures) c.status.ensures
+
+pub returns-clause-run_cut : goal.returns-clause-run_cut
+returns-clause-run_cut g c = run_cut_of (c.attempt-outcome.ensures.answers (task_asked c.args.words.now) c.asked_task-asked.ensures) c.status.ensures
+
+pub returns-clause-run_part : goal.returns-clause-run_part
+returns-clause-run_part g c = run_part_of (c.attempt-outcome.ensures.answers (task_asked c.args.words.now) c.asked_task-asked.ensures) c.status.ensures
+
+pub returns-clause-run_fault : goal.returns-clause-run_fault
+returns-clause-run_fault g c = run_fault_of (c.attempt-outcome.ensures.answers (task_asked c.args.words.now) c.asked_task-asked.ensures) c.status.ensures (c.attempt-outcome.ensures.run_fault (task_asked c.args.words.now) c.asked_task-asked.ensures)
+
+pub returns-clause-missing : goal.returns-clause-missing
+returns-clause-missing g c = missing_of (c.attempt-outcome.ensures.answers (task_asked c.args.words.now) c.asked_task-asked.ensures) c.status.ensures (c.attempt-outcome.ensures.counts (task_asked c.args.words.now) c.asked_task-asked.ensures)
+
+pub returns-clause-read_fault : goal.returns-clause-read_fault
+returns-clause-read_fault g c = read_fault_of (c.attempt-outcome.ensures.answers (task_asked c.args.words.now) c.asked_task-asked.ensures) c.status.ensures (c.attempt-outcome.ensures.counts (task_asked c.args.words.now) c.asked_task-asked.ensures)
+
+pub returns-clause-write_fault : goal.returns-clause-write_fault
+returns-clause-write_fault g c = write_fault_of (c.attempt-outcome.ensures.answers (task_asked c.args.words.now) c.asked_task-asked.ensures) c.status.ensures (c.attempt-outcome.ensures.counts (task_asked c.args.words.now) c.asked_task-asked.ensures)
+
+pub returns-clause-none_missing : goal.returns-clause-none_missing
+returns-clause-none_missing g c = none_missing_of c.status.ensures (c.attempt-outcome.ensures.counts (task_asked c.args.words.now) c.asked_task-asked.ensures)
+
+pub returns-clause-no_read_fault : goal.returns-clause-no_read_fault
+returns-clause-no_read_fault g c = no_read_fault_of c.status.ensures (c.attempt-outcome.ensures.counts (task_asked c.args.words.now) c.asked_task-asked.ensures)
+
+pub returns-clause-no_input_fault : goal.returns-clause-no_input_fault
+returns-clause-no_input_fault g c = no_input_fault_of c.status.ensures (c.attempt-outcome.ensures.counts (task_asked c.args.words.now) c.asked_task-asked.ensures)
+
+pub returns-clause-no_write_fault : goal.returns-clause-no_write_fault
+returns-clause-no_write_fault g c = no_write_fault_of c.status.ensures (c.attempt-outcome.ensures.counts (task_asked c.args.words.now) c.asked_task-asked.ensures)
 
 pub returns-clause-complete : goal.returns-clause-complete
-returns-clause-complete g c = λ accepted calm_read calm_write. elim c.match-asked.branch [
-  | in-Ok-Some w ↦
-      let told = g.F.Files.told c.args.files.now in
-      let words = c.args.words.now in
-      let says = w.translate-outcome.ensures in
-      let named : w.in-Ok-Some.name.now ≡ name_asked c.args.words.now = ap (λ o. unwrap_or o []) (sym (ap option_copied (rw w.in-Ok-Some.is at w.in-Ok-Some.field-0-is)) ∙ subst (λ a. IfOk a (λ n. option_copied n ≡ file_asked c.args.words.now)) w.in-Ok-Some.is c.asked_file-asked.ensures) in
-      let refused = λ (r : Refuses told w.in-Ok-Some.name.now). subst (λ n. Refuses told n) named r in
-      subst (λ s. (s ≡ 0) ⊎ (s ≡ 245)) (sym (c.status.ensures ∙ ap status_of w.outcome-is))
-      (completed told words w.translate-outcome.result
-      (Rose (g.F.Files.faults c.args.files.now) (g.F.Files.faults c.match-asked.files)) (Rose (g.O.Sink.faults c.args.out.now) (g.O.Sink.faults c.match-asked.out))
-      accepted calm_read calm_write says.asked
-      (λ e. subst (λ n. Lacks told n) named (says.absent e))
-      (λ e. subst (λ f. Rose (g.F.Files.faults c.args.files.now) (g.F.Files.faults f)) (sym w.files-is) (says.read_fault e))
-      (λ e. subst (λ o. Rose (g.O.Sink.faults c.args.out.now) (g.O.Sink.faults o)) (sym w.out-is) (says.write_fault e))
-      (λ e. refused (says.too_long e))
-      (λ e. refused (says.unbuilt e)))
-  | in-Ok-None w ↦ absurd (asks (g.F.Files.told c.args.files.now) c.args.words.now accepted (sym (subst (λ a. IfOk a (λ n. option_copied n ≡ file_asked c.args.words.now)) w.in-Ok-None.is c.asked_file-asked.ensures) ∙ ap option_copied (rw w.in-Ok-None.is at w.in-Ok-None.field-0-is)))
-  | in-Err w ↦ inr (c.status.ensures ∙ ap status_of w.outcome-is)
-]
+returns-clause-complete g c = complete_of c.args.words.now (c.attempt-outcome.ensures.answers (task_asked c.args.words.now) c.asked_task-asked.ensures) c.status.ensures (c.attempt-outcome.ensures.counts (task_asked c.args.words.now) c.asked_task-asked.ensures)
+
+pub returns-clause-run_complete : goal.returns-clause-run_complete
+returns-clause-run_complete g c = run_complete_of c.args.words.now (c.attempt-outcome.ensures.answers (task_asked c.args.words.now) c.asked_task-asked.ensures) c.status.ensures (c.attempt-outcome.ensures.counts (task_asked c.args.words.now) c.asked_task-asked.ensures)
+
+pub returns-clause-early : goal.returns-clause-early
+returns-clause-early g c = early_of (c.attempt-outcome.ensures.answers (task_asked c.args.words.now) c.asked_task-asked.ensures) c.status.ensures (c.attempt-outcome.ensures.stays (task_asked c.args.words.now) c.asked_task-asked.ensures)
+
+pub returns-clause-untouched : goal.returns-clause-untouched
+returns-clause-untouched g c = untouched_of c.status.ensures (c.attempt-outcome.ensures.stays (task_asked c.args.words.now) c.asked_task-asked.ensures)
+
+pub returns-clause-input : goal.returns-clause-input
+returns-clause-input g c = (c.attempt-outcome.ensures.stays (task_asked c.args.words.now) c.asked_task-asked.ensures).same_input
 
 pub returns-clause-message : goal.returns-clause-message
 returns-clause-message g c =
+    let words = c.args.words.now in
+    let o = c.attempt-outcome.result in
     let name = c.name_or_nothing.result.now in
-    let of_words = name_asked c.args.words.now in
-    let text = message_of c.match-asked.outcome in
-    let same : text name ≡ text of_words = elim c.match-asked.branch [
-      | in-Ok-Some w ↦ ap text (subst (λ a. IfOk a (λ n. name ≡ unwrap_or (option_copied n) [])) w.in-Ok-Some.is c.name_or_nothing.ensures ∙ ap (λ o. unwrap_or o []) (subst (λ a. IfOk a (λ n. option_copied n ≡ file_asked c.args.words.now)) w.in-Ok-Some.is c.asked_file-asked.ensures))
-      | in-Ok-None w ↦ ap text (subst (λ a. IfOk a (λ n. name ≡ unwrap_or (option_copied n) [])) w.in-Ok-None.is c.name_or_nothing.ensures ∙ ap (λ o. unwrap_or o []) (subst (λ a. IfOk a (λ n. option_copied n ≡ file_asked c.args.words.now)) w.in-Ok-None.is c.asked_file-asked.ensures))
-      | in-Err w ↦ ap (λ o. message_of o name) w.outcome-is ∙ sym (ap (λ o. message_of o of_words) w.outcome-is)
-    ] in
     let old = g.E.Sink.written c.args.err.now in
-    let new = g.E.Sink.written c.report.new.sink in (
-      c.match-asked.outcome,
+    let new = g.E.Sink.written c.report.new.sink in
+    let faults = g.E.Sink.faults c.args.err.now in
+    let faults' = g.E.Sink.faults c.report.new.sink in
+    let same = same_message c.asked_task-asked.result words o name c.asked_task-asked.ensures c.name_or_nothing.ensures c.attempt-outcome.ensures.wanting in (
+      o,
       c.status.ensures,
-      says old new _ _ (text of_words) c.report.result
-          (subst (λ t. OnOk c.report.result (Gains old new t)) same c.report.ensures.whole)
-          (subst (λ t. OnErr c.report.result (GainsPart old new t)) same c.report.ensures.part)
-          c.report.ensures.fault,
+      (c.attempt-outcome.ensures.answers (task_asked words) c.asked_task-asked.ensures).says,
+      subst (λ text. Says old new faults faults' text) same (says old new faults faults' (message_of o name) c.report.result c.report.ensures.whole c.report.ensures.part c.report.ensures.fault),
     )

@@ -2,7 +2,7 @@ use Rattle.std.proofs.Common.{subst}
 use Rattle.std.specs.Prelude.{option_map}
 use Rattle.p2c_main.specs.Translated.{IsMade}
 use Rattle.p2c_main.proofs.Translations.{refuses}
-use Rattle.p2c_main.proofs.top.translate.Goals as goal
+use Rattle.p2c_main.proofs.translation.translate.Goals as goal
 
 pub returns-in-Ok-None-clause-unbuilt : goal.returns-in-Ok-None-clause-unbuilt
 returns-in-Ok-None-clause-unbuilt g c = λ e.

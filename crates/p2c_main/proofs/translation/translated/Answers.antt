@@ -5,7 +5,7 @@ use Rattle.agreement.specs.Laws.{IsByte}
 use Rattle.agreement.specs.Writers.{writer_of}
 use Rattle.literal_writers.specs.Written.{IsRead}
 use Rattle.p2c_main.proofs.Translations.{made, nothing_made}
-use Rattle.p2c_main.proofs.top.translated.Goals as goal
+use Rattle.p2c_main.proofs.translation.translated.Goals as goal
 
 pub returns-in_default : goal.returns-in_default
 returns-in_default c =

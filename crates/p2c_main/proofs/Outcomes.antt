@@ -1,0 +1,186 @@
+-- What the status of an answer tells of it.
+use Rattle.std.proofs.Common.{◌≡◌, ℕ, ◌<◌, ◌≤◌, List, [], length, Option, Some, None, ◌⊎◌, inl, inr, refl, subst, ◌∙◌, ap, sym, arith}
+use Rattle.std.specs.Bool.{⊤}
+use Rattle.c_tree.specs.declared.program.CProgram.{CProgram}
+use Rattle.c_grammar.specs.Text.{CText}
+use Rattle.p2c_outside.specs.Told.{Named, HasFile, WhereTold}
+use Rattle.c_reader.specs.Read.{IsNoText}
+use Rattle.agreement.specs.Writers.{Writing}
+use Rattle.p2c_main.specs.Answers.{AnswersTo, NothingAnswer, TranslationAnswer, RunAnswer, IsEarly}
+use Rattle.p2c_main.specs.Executed.{AsksForText, CutsOff, EndsWith, IsOfRun, MayExecutePart, NotRun, OfFile}
+use Rattle.p2c_main.specs.Messages.{status_of}
+use Rattle.p2c_main.specs.Reading.{Lacks}
+use Rattle.p2c_main.specs.Translated.{Accepts, AsksForAccepted, Refuses, Translates, TranslatesPart}
+use Rattle.p2c_main.specs.Words.{Task, Translating, Running, IsRunning, name_of, task_asked}
+use Rattle.p2c_main.specs.declared.outcome.Outcome.{Outcome}
+use Rattle.p2c_main.specs.declared.outcome.Outcome.TheVariants.{Done, Ended, Usage, TooLong, Unbuilt, BadText, Missing, ReadFault, WriteFault, OutOfMemory, Spent, Stuck}
+use Rattle.p2c_main.proofs.Translations.{told_more}
+
+-- ---- the program's own status is at most 209
+
+abbrev pub IsLow : Outcome → Type 0
+IsLow (Ended status) = status ≤ 209
+IsLow _ = ⊤
+
+low_ended : (told : Option Named) (task : Option Task) (input old new : Option (List ℕ)) (status : ℕ) → AnswersTo told task input old new (Ended status) → status ≤ 209
+low_ended told None input old new status a = absurd a
+low_ended told (Some (Translating name)) input old new status a = absurd a
+low_ended told (Some (Running steps name)) input old new status a = a.0
+
+pub low : (told : Option Named) (task : Option Task) (input old new : Option (List ℕ)) (o : Outcome) → AnswersTo told task input old new o → IsLow o
+low told task input old new (Ended status) a = low_ended told task input old new status a
+low told task input old new _ a = tt
+
+-- ---- the answers that have their own status
+
+pub usage_status : (o : Outcome) → IsLow o → status_of o ≡ 240 → o ≡ Usage
+usage_status Usage small e = refl
+usage_status (Ended status) small e = absurd (omega (arith, e, small))
+usage_status _ small e = absurd (omega (arith, e))
+
+pub missing_status : (o : Outcome) → IsLow o → status_of o ≡ 242 → o ≡ Missing
+missing_status Missing small e = refl
+missing_status (Ended status) small e = absurd (omega (arith, e, small))
+missing_status _ small e = absurd (omega (arith, e))
+
+pub read_status : (o : Outcome) → IsLow o → status_of o ≡ 243 → o ≡ ReadFault
+read_status ReadFault small e = refl
+read_status (Ended status) small e = absurd (omega (arith, e, small))
+read_status _ small e = absurd (omega (arith, e))
+
+pub write_status : (o : Outcome) → IsLow o → status_of o ≡ 244 → o ≡ WriteFault
+write_status WriteFault small e = refl
+write_status (Ended status) small e = absurd (omega (arith, e, small))
+write_status _ small e = absurd (omega (arith, e))
+
+within : (s : ℕ) → (s ≡ 240) ⊎ (s ≡ 241) ⊎ (s ≡ 242) → (240 ≤ s) × (s ≤ 242)
+within s (inl e) = (omega (arith, e), omega (arith, e))
+within s (inr (inl e)) = (omega (arith, e), omega (arith, e))
+within s (inr (inr e)) = (omega (arith, e), omega (arith, e))
+
+not_within : (s : ℕ) → (s ≤ 239) ⊎ (243 ≤ s) → (s ≡ 240) ⊎ (s ≡ 241) ⊎ (s ≡ 242) → ⊥
+not_within s (inl below) e = let w = within s e in omega (arith, w.0, w.1, below)
+not_within s (inr above) e = let w = within s e in omega (arith, w.0, w.1, above)
+
+pub early_status : (o : Outcome) → IsLow o → (status_of o ≡ 240) ⊎ (status_of o ≡ 241) ⊎ (status_of o ≡ 242) → IsEarly o
+early_status (Ended status) small e = absurd (not_within status (inl (omega (arith, small))) e)
+early_status Done small e = absurd (not_within 0 (inl (omega arith)) e)
+early_status ReadFault small e = absurd (not_within 243 (inr (omega arith)) e)
+early_status WriteFault small e = absurd (not_within 244 (inr (omega arith)) e)
+early_status OutOfMemory small e = absurd (not_within 245 (inr (omega arith)) e)
+early_status Spent small e = absurd (not_within 246 (inr (omega arith)) e)
+early_status (Stuck kind) small e = absurd (not_within 247 (inr (omega arith)) e)
+early_status _ small e = tt
+
+-- ---- words that ask for nothing
+
+pub usage_none : (told : Option Named) (task : Option Task) (input old new : Option (List ℕ)) → AnswersTo told task input old new Usage → task ≡ None
+usage_none told None input old new a = refl
+usage_none told (Some (Translating name)) input old new a = absurd a
+usage_none told (Some (Running steps name)) input old new a = absurd a
+
+pub nothing_status : (o : Outcome) → NothingAnswer o → (status_of o ≡ 240) ⊎ (status_of o ≡ 245)
+nothing_status Usage a = inl refl
+nothing_status OutOfMemory a = inr refl
+nothing_status _ a = absurd a
+
+pub missing_lacks : (told : Option Named) (task : Option Task) (input old new : Option (List ℕ)) → AnswersTo told task input old new Missing → Lacks told (name_of task)
+missing_lacks told None input old new a = absurd a
+missing_lacks told (Some (Translating name)) input old new a = a
+missing_lacks told (Some (Running steps name)) input old new a = a
+
+-- ---- a translation
+
+pub done_translates : (told : Option Named) (name : List ℕ) (old new : Option (List ℕ)) (o : Outcome) → TranslationAnswer told name old new o → status_of o ≡ 0 → Translates told name old new
+done_translates told name old new Done a e = a
+done_translates told name old new (Ended status) a e = absurd a
+done_translates told name old new _ a e = absurd (omega (arith, e))
+
+pub status_refuses : (told : Option Named) (name : List ℕ) (old new : Option (List ℕ)) (o : Outcome) → TranslationAnswer told name old new o → status_of o ≡ 241 → Refuses told name
+status_refuses told name old new TooLong a e = a
+status_refuses told name old new Unbuilt a e = a
+status_refuses told name old new (BadText kind line) a e = absurd a
+status_refuses told name old new (Ended status) a e = absurd a
+status_refuses told name old new _ a e = absurd (omega (arith, e))
+
+pub cut_translates : (told : Option Named) (name : List ℕ) (old new : Option (List ℕ)) (o : Outcome) → TranslationAnswer told name old new o → status_of o ≡ 244 → TranslatesPart told name old new
+cut_translates told name old new WriteFault a e = a
+cut_translates told name old new (Ended status) a e = absurd a
+cut_translates told name old new _ a e = absurd (omega (arith, e))
+
+accepted_translated : (files : Named) (name source : List ℕ) (ws : List Writing) (old new : Option (List ℕ)) (o : Outcome) → files name ≡ Some source → Accepts source ws
+    → TranslationAnswer (Some files) name old new o → (o ≡ ReadFault → ⊥) → (o ≡ WriteFault → ⊥) → (status_of o ≡ 0) ⊎ (status_of o ≡ 245)
+accepted_translated files name source ws old new Done is accepted a r w = inl refl
+accepted_translated files name source ws old new OutOfMemory is accepted a r w = inr refl
+accepted_translated files name source ws old new TooLong is accepted a r w = absurd (subst (λ f. HasFile f (λ bytes. (v : List Writing) → Accepts bytes v → ⊥)) is a ws accepted)
+accepted_translated files name source ws old new Unbuilt is accepted a r w = absurd (subst (λ f. HasFile f (λ bytes. (v : List Writing) → Accepts bytes v → ⊥)) is a ws accepted)
+accepted_translated files name source ws old new Missing is accepted a r w = absurd cc
+accepted_translated files name source ws old new ReadFault is accepted a r w = absurd (r refl)
+accepted_translated files name source ws old new WriteFault is accepted a r w = absurd (w refl)
+accepted_translated files name source ws old new _ is accepted a r w = absurd a
+
+-- where no fault rose, the translation is done, or memory was wanting
+pub completed : (told : Option Named) (words : List (List ℕ)) (input old new : Option (List ℕ)) (o : Outcome) → AsksForAccepted told words → AnswersTo told (task_asked words) input old new o
+    → (o ≡ ReadFault → IsRunning (task_asked words)) → (o ≡ WriteFault → ⊥) → (status_of o ≡ 0) ⊎ (status_of o ≡ 245)
+completed None words input old new o asks a r w = absurd asks
+completed (Some files) words input old new o (name, source, ws, asked, is, accepted) a r w =
+    accepted_translated files name source ws old new o is accepted (subst (λ t. AnswersTo (Some files) t input old new o) asked a) (λ e. subst IsRunning asked (r e)) w
+
+-- ---- a run
+
+not_of_run : (s : ℕ) → 210 ≤ s → s ≤ 245 → IsOfRun s → ⊥
+not_of_run s above below (inl e) = omega (arith, above, e)
+not_of_run s above below (inr (inl e)) = omega (arith, below, e)
+not_of_run s above below (inr (inr e)) = omega (arith, below, e)
+
+pub ends_with : (told : Option Named) (name : List ℕ) (steps : ℕ) (input old new : Option (List ℕ)) (o : Outcome) → RunAnswer told name steps input old new o → IsOfRun (status_of o)
+    → EndsWith (status_of o) told name steps input old new
+ends_with told name steps input old new (Ended status) a r = (Ended status, refl, a.1)
+ends_with told name steps input old new Spent a r = (Spent, refl, a)
+ends_with told name steps input old new (Stuck kind) a r = (Stuck kind, refl, a)
+ends_with told name steps input old new TooLong a r = absurd (not_of_run 241 (omega arith) (omega arith) r)
+ends_with told name steps input old new (BadText kind line) a r = absurd (not_of_run 241 (omega arith) (omega arith) r)
+ends_with told name steps input old new Missing a r = absurd (not_of_run 242 (omega arith) (omega arith) r)
+ends_with told name steps input old new ReadFault a r = absurd (not_of_run 243 (omega arith) (omega arith) r)
+ends_with told name steps input old new WriteFault a r = absurd (not_of_run 244 (omega arith) (omega arith) r)
+ends_with told name steps input old new OutOfMemory a r = absurd (not_of_run 245 (omega arith) (omega arith) r)
+ends_with told name steps input old new _ a r = absurd a
+
+pub not_run : (told : Option Named) (name : List ℕ) (steps : ℕ) (input old new : Option (List ℕ)) (o : Outcome) → RunAnswer told name steps input old new o → status_of o ≡ 241 → NotRun told name
+not_run told name steps input old new TooLong a e = told_more told name _ _ (λ bytes long. inl long) a
+not_run told name steps input old new (BadText kind line) a e = told_more told name (λ bytes. IsNoText bytes kind line) _ (λ bytes none. inr none.none) a
+not_run told name steps input old new (Ended status) a e = absurd (let small = a.0 in omega (arith, e, small))
+not_run told name steps input old new Unbuilt a e = absurd a
+not_run told name steps input old new _ a e = absurd (omega (arith, e))
+
+pub run_cut : (told : Option Named) (name : List ℕ) (steps : ℕ) (input old new : Option (List ℕ)) (o : Outcome) → RunAnswer told name steps input old new o → status_of o ≡ 244
+    → OfFile told name (λ source. CutsOff source steps input old new)
+run_cut told name steps input old new WriteFault a e = a
+run_cut told name steps input old new (Ended status) a e = absurd (let small = a.0 in omega (arith, e, small))
+run_cut told name steps input old new _ a e = absurd (omega (arith, e))
+
+pub memory_part : (told : Option Named) (name : List ℕ) (steps : ℕ) (input old new : Option (List ℕ)) (o : Outcome) → RunAnswer told name steps input old new o → status_of o ≡ 245
+    → MayExecutePart told name steps input old new
+memory_part told name steps input old new OutOfMemory a e = a
+memory_part told name steps input old new (Ended status) a e = absurd (let small = a.0 in omega (arith, e, small))
+memory_part told name steps input old new _ a e = absurd (omega (arith, e))
+
+text_run : (files : Named) (name source : List ℕ) (c : CProgram) (steps : ℕ) (input old new : Option (List ℕ)) (o : Outcome) → files name ≡ Some source → length source ≤ 67108864 → CText source c
+    → RunAnswer (Some files) name steps input old new o → (o ≡ ReadFault → ⊥) → (o ≡ WriteFault → ⊥) → IsOfRun (status_of o) ⊎ (status_of o ≡ 245)
+text_run files name source c steps input old new (Ended status) is short text a r w = inl (inl a.0)
+text_run files name source c steps input old new Spent is short text a r w = inl (inr (inl refl))
+text_run files name source c steps input old new (Stuck kind) is short text a r w = inl (inr (inr refl))
+text_run files name source c steps input old new OutOfMemory is short text a r w = inr refl
+text_run files name source c steps input old new TooLong is short text a r w = absurd (let long = subst (λ f. HasFile f (λ bytes. 67108864 < length bytes)) is a in omega (arith, long, short))
+text_run files name source c steps input old new (BadText kind line) is short text a r w = absurd ((subst (λ f. HasFile f (λ bytes. IsNoText bytes kind line)) is a).none c text)
+text_run files name source c steps input old new Missing is short text a r w = absurd cc
+text_run files name source c steps input old new ReadFault is short text a r w = absurd (r refl)
+text_run files name source c steps input old new WriteFault is short text a r w = absurd (w refl)
+text_run files name source c steps input old new _ is short text a r w = absurd a
+
+-- where no fault rose, the text is run, or memory was wanting
+pub run_completed : (told : Option Named) (words : List (List ℕ)) (input old new : Option (List ℕ)) (o : Outcome) → AsksForText told words → AnswersTo told (task_asked words) input old new o
+    → (o ≡ ReadFault → ⊥) → (o ≡ WriteFault → ⊥) → IsOfRun (status_of o) ⊎ (status_of o ≡ 245)
+run_completed None words input old new o asks a r w = absurd asks
+run_completed (Some files) words input old new o (steps, name, source, c, asked, is, short, text) a r w =
+    text_run files name source c steps input old new o is short text (subst (λ t. AnswersTo (Some files) t input old new o) asked a) r w

@@ -1,0 +1,112 @@
+//! A file run.
+
+ghost use Rattle.std.specs.Prelude.{◌≡◌, ◌≢◌, ◌≤◌, ◌⊎◌, ℕ, Option, List, length};
+ghost use Rattle.p2c_outside.specs.Counts.{Rose};
+ghost use Rattle.p2c_outside.specs.Told.{Named, WhereTold};
+ghost use Rattle.p2c_main.specs.Answers.{IsEarly, RunAnswer};
+ghost use Rattle.p2c_main.specs.Executed.{InputFails, ReadFails, outcome_of_run, outcome_with};
+
+use crate::outcome::Outcome;
+use crate::reading::{read_whole, refused};
+use c_reader::CTextFault;
+use c_stepper::Ended;
+use p2c_outside::{Files, Sink, Source};
+use run_core::{LONGEST_INPUT, run_text};
+use std::alloc::Global;
+
+/// The most steps that the runner does.
+const MOST_STEPS: u64 = 1_000_000_000_000_000_000;
+
+/// The greatest status of a program.
+const LAST_STATUS: u8 = 209;
+
+/// Runs the text in the file of this name, for at most so many steps.
+pub fn execute<F: Files, I: Source, O: Sink>(
+    alloc: Global,
+    files: &mut F,
+    name: &str,
+    steps: u64,
+    input: &mut I,
+    out: &mut O,
+) -> Outcome
+    ensures answer { RunAnswer (F.told files.old) name.now steps (I.left input.old) (O.written out.old) (O.written out.new) result }
+    ensures missing { result ≡ Outcome.Missing → Rose (F.missing files.old) (F.missing files.new) }
+    ensures read_fault { result ≡ Outcome.ReadFault →
+        ReadFails (Rose (F.faults files.old) (F.faults files.new)) (Rose (I.faults input.old) (I.faults input.new))
+        ((input.new ≡ input.old) × (out.new ≡ out.old))
+        (F.told files.old) name.now steps (I.left input.old) (O.written out.old) (O.written out.new) }
+    ensures write_fault { result ≡ Outcome.WriteFault → Rose (O.faults out.old) (O.faults out.new) }
+
+    ensures none_missing { result ≢ Outcome.Missing → result ≢ Outcome.ReadFault →
+        F.missing files.new ≡ F.missing files.old }
+    ensures no_read_fault { result ≢ Outcome.Missing → result ≢ Outcome.ReadFault →
+        F.faults files.new ≡ F.faults files.old }
+    ensures no_input_fault { result ≢ Outcome.ReadFault → result ≢ Outcome.WriteFault →
+        I.faults input.new ≡ I.faults input.old }
+    ensures no_write_fault { result ≢ Outcome.WriteFault → O.faults out.new ≡ O.faults out.old }
+    ensures early { IsEarly result → (input.new ≡ input.old) × (out.new ≡ out.old) }
+    ensures same { F.told files.new ≡ F.told files.old }
+{
+    // the words ask for no more steps
+    if steps > MOST_STEPS {
+        return Outcome::OutOfMemory;
+    }
+    let bytes = match read_whole(alloc, files, name, LONGEST_INPUT) {
+        Ok(bytes) => bytes,
+        Err(refusal) => return refused(refusal),
+    };
+    executed(alloc, &bytes, steps, input, out)
+}
+
+fn executed<I: Source, O: Sink>(
+    alloc: Global,
+    bytes: &[u8],
+    steps: u64,
+    input: &mut I,
+    out: &mut O,
+) -> Outcome
+    requires short { length bytes.now ≤ LONGEST_INPUT }
+    requires few { steps ≤ MOST_STEPS }
+    ensures answer { (told : Option Named) (name : List ℕ) → WhereTold told name (λ b. bytes.now ≡ b) →
+        RunAnswer told name steps (I.left input.old) (O.written out.old) (O.written out.new) result }
+    ensures there { result ≢ Outcome.Missing }
+    ensures input_failed { result ≡ Outcome.ReadFault →
+        InputFails bytes.now steps (I.left input.old) (O.written out.old) (O.written out.new) }
+    ensures read_fault { result ≡ Outcome.ReadFault → Rose (I.faults input.old) (I.faults input.new) }
+    ensures write_fault { result ≡ Outcome.WriteFault → Rose (O.faults out.old) (O.faults out.new) }
+    ensures no_input_fault { result ≢ Outcome.ReadFault → result ≢ Outcome.WriteFault →
+        I.faults input.new ≡ I.faults input.old }
+    ensures no_write_fault { result ≢ Outcome.WriteFault → O.faults out.new ≡ O.faults out.old }
+    ensures early { IsEarly result → (input.new ≡ input.old) × (out.new ≡ out.old) }
+{
+    let answer = run_text(alloc, bytes, steps, input, out);
+    finished(&answer)
+}
+
+fn finished(answer: &Result<Ended, CTextFault>) -> Outcome
+    ensures { result ≡ outcome_of_run answer.now }
+{
+    match answer {
+        Ok(Ended::Status { status, .. }) => with_status(*status),
+        Ok(Ended::Spent) => Outcome::Spent,
+        Ok(Ended::Stuck(kind)) => Outcome::Stuck(*kind),
+        Ok(Ended::InputFault) => Outcome::ReadFault,
+        Ok(Ended::OutputFault) => Outcome::WriteFault,
+        Ok(Ended::Memory(_)) | Err(CTextFault::Memory(_)) => Outcome::OutOfMemory,
+        Err(CTextFault::At { kind, line }) => Outcome::BadText {
+            kind: *kind,
+            line: *line,
+        },
+    }
+}
+
+/// The outcome of a status; the meaning has none above 209.
+fn with_status(status: u8) -> Outcome
+    ensures { result ≡ outcome_with status }
+{
+    if status <= LAST_STATUS {
+        Outcome::Ended(status)
+    } else {
+        Outcome::OutOfMemory
+    }
+}
