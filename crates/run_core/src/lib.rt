@@ -1,0 +1,9 @@
+//! Running C texts.
+#![tactic(auto)]
+
+mod running;
+#[cfg(test)]
+mod tests;
+
+pub use c_reader::LONGEST_INPUT;
+pub use running::run_text;
