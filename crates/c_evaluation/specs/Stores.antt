@@ -1,7 +1,7 @@
 -- What stores tell, and what places take.
 use Rattle.std.specs.Prelude.{◌≡◌, ℕ, ℤ, pos, negsuc, Bool, not, List, [], length, Option, Some, None, nat_lt, slice_set, Result, Ok, Err}
 use Rattle.c_tree.specs.Tree as t
-use Rattle.c_meaning.specs.Evaluate.{View, value, place}
+use Rattle.c_meaning.specs.Evaluate.{View, Site, value, place}
 use Rattle.c_meaning.specs.Steps.{put_value, free_value}
 use Rattle.c_tree.specs.Tree.{ObjectType}
 use Rattle.c_tree.specs.declared.program.CDeclaration.{CDeclaration}
@@ -27,6 +27,12 @@ byte_taken x = as_int x >>= byte_of
 
 abbrev pub alike_taken : List CDeclaration → ObjectType → Value → Answer Tree
 alike_taken ds of x = when (alike ds (Of of) (type_in x)) k.Mismatch (Got (tree_in x))
+
+-- the place is found, or is not there for this cause; nothing is told where memory is short
+abbrev pub Finds : Result (Unit {0}) Halt → Answer Site → Type 0
+Finds (Ok done) answer = (site : Site) × (answer ≡ Got site)
+Finds (Err (Stuck kind)) answer = answer ≡ Bad kind
+Finds (Err Memory) answer = Unit {0}
 
 -- ---- statements
 

@@ -1,6 +1,7 @@
 //! What places take of values, and where it goes.
 ghost use Rattle.std.specs.Prelude.{◌≡◌, [], length};
 ghost use Rattle.c_meaning.specs.Values as w;
+ghost use Rattle.c_meaning.specs.Evaluate as v;
 ghost use Rattle.c_meaning.specs.Steps as m;
 ghost use Rattle.c_evaluation.specs.Types.{object_of, place_type_of};
 ghost use Rattle.c_cells.specs.Views.{cell_of};
@@ -11,7 +12,7 @@ ghost use Rattle.c_meaning.specs.Answer.{Got};
 ghost use Rattle.c_evaluation.specs.Values.{value_of as worth, content_of, tree_in};
 ghost use Rattle.c_evaluation.specs.Scopes.{view_at, site_of, HasRoom};
 ghost use Rattle.c_evaluation.specs.Halts.{said, Tells};
-ghost use Rattle.c_evaluation.specs.Stores.{Stores, next_number, byte_stored, address_stored, byte_put, byte_number, byte_of_number, chosen, truth_in, Frees, freed_of, byte_taken as byte_given, alike_taken as alike_given};
+ghost use Rattle.c_evaluation.specs.Stores.{Stores, Finds, next_number, byte_stored, address_stored, byte_put, byte_number, byte_of_number, chosen, truth_in, Frees, freed_of, byte_taken as byte_given, alike_taken as alike_given};
 
 use crate::evaluate::{place_of, value_of};
 use crate::halt::Halt;
@@ -166,6 +167,17 @@ pub fn got<'a>(scope: &Scope<'a>, place: &'a CPlace, byte: Option<u8>) -> Result
 {
     let site = place_of(scope, place)?;
     put_value(scope, site, next_value(byte))
+}
+
+/// Whether a place is there.
+pub fn found<'a>(scope: &Scope<'a>, place: &'a CPlace) -> Result<(), Halt>
+    requires { HasRoom scope.now }
+    ensures { Finds result (v.place (view_at scope.now) place.now) }
+{
+    match place_of(scope, place) {
+        Ok(_site) => Ok(()),
+        Err(halt) => Err(halt),
+    }
 }
 
 /// What a new block's address is, and where `place = malloc(sizeof(of));` puts it.

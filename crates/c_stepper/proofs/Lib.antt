@@ -7,4 +7,5 @@ pub mod Leaving
 pub mod Entering
 pub mod Running
 pub mod Stepping
+pub mod Seeking
 pub mod Machining

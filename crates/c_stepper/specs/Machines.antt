@@ -2,14 +2,15 @@
 use Rattle.std.specs.Prelude.{◌≡◌, ◌≢◌, ◌⊎◌, ℕ, ◌+◌, ◌≤◌, ◌<◌, Bool, true, false, List, [], ◌++◌, length, Option, Some, None}
 use Rattle.c_tree.specs.declared.program.CProgram.{CProgram}
 use Rattle.c_meaning.specs.States.{State}
-use Rattle.c_meaning.specs.Steps.{Next, Onward, Ended, Halted}
+use Rattle.c_meaning.specs.Steps.{Next, Onward, Ended, Halted, CStep}
 use Rattle.c_meaning.specs.Runs as m
-use Rattle.c_meaning.specs.Runs.{CAnswer, start, CRun}
+use Rattle.c_meaning.specs.Runs.{CAnswer, start, run_from, CRun}
 use Rattle.p2c_outside.specs.Counts.{Rose}
+use Rattle.p2c_outside.specs.Told as o
 use Rattle.p2c_outside.specs.Told.{Gains}
 use Rattle.held_bytes.specs.Written.{GainsPart}
 use Rattle.held_bytes.specs.Held.{bytes_in, Moves}
-use Rattle.c_stepper.specs.Runners.{FitsFrames, state_of}
+use Rattle.c_stepper.specs.Runners.{FitsFrames, state_of, AsksForByte}
 use Rattle.c_stepper.specs.declared.machine.Machine.{Machine}
 use Rattle.c_stepper.specs.declared.machine.Stepped.{Stepped}
 use Rattle.c_stepper.specs.declared.machine.Stepped.TheVariants as s
@@ -25,6 +26,7 @@ pub record IsFor (c : CProgram) (m : Machine) : Type 0 where
   pub frames : m.over ≡ None → FitsFrames c m.runner
   pub counted : m.calls ≤ m.taken
   pub few : length m.output.bytes.items < 4096
+  pub ahead : m.over ≡ None → length (bytes_in m.input) < 4096
 
 -- it stands at the start of `main`
 pub record Begins (c : CProgram) (m : Machine) : Type 0 where
@@ -66,6 +68,24 @@ Steps c held count new left' w w' output calls s.InputFault next = Gains w w' he
 Steps c held count new left' w w' output calls s.OutputFault next = Loses held w w' output next
 Steps c held count new left' w w' output calls (s.Memory e) next = Gains w w' held
 
+-- few bytes were taken ahead of a state: a byte less than a piece, or a piece where the state asks for one of them
+abbrev pub AreFew : CProgram → State → List ℕ → Type 0
+AreFew c st ahead = (length ahead < 4096) ⊎ ((length ahead ≤ 4096) × AsksForByte c st)
+
+-- what a step tells of the bytes that it takes, whatever comes after them
+pub record Takes (c : CProgram) (old new : Machine) (left left' w w' : Option (List ℕ)) (result : Stepped) : Type 0 where
+  pub taken : List ℕ
+  pub loses : o.Loses left left' taken
+  pub step : (rest output calls : List ℕ) → (new.input.over ≡ true → rest ≡ []) → length calls ≡ old.calls
+      → Steps c old.output.bytes.items old.calls new (Some rest) w w' output calls result (CStep c (stood c old (taken ++ rest) output calls))
+  -- after the end nothing is taken
+  pub ends : old.input.over ≡ true → (taken ≡ []) × (new.input.over ≡ true)
+  pub few : (rest output calls : List ℕ) → AreFew c (stood c old (taken ++ rest) output calls) (bytes_in old.input ++ taken)
+  -- before the end each byte that is asked for is there
+  pub served : result ≡ s.Going → new.input.over ≡ false → (rest output calls : List ℕ) → AsksForByte c (stood c old (taken ++ rest) output calls) → bytes_in old.input ++ taken ≢ []
+  -- what is wanted is a byte
+  pub wants : result ≡ s.InputFault → (old.input.over ≡ false) × (bytes_in old.input ≡ []) × (taken ≡ []) × ((rest output calls : List ℕ) → AsksForByte c (stood c old rest output calls))
+
 -- ---- the end of a machine
 
 -- what is held is put, and where that fails the answer says so
@@ -84,9 +104,9 @@ pub record PutFaults (before after : ℕ) (result : Stepped) : Type 0 where
   pub none : result ≢ s.OutputFault → after ≡ before
   pub some : result ≡ s.OutputFault → Rose before after
 
--- the source failed where the answer says so, and else not, but maybe where the sink failed too
+-- the source failed where the answer says so, and else not
 pub record TakeFaults (before after : ℕ) (result : Stepped) : Type 0 where
-  pub none : result ≢ s.InputFault → result ≢ s.OutputFault → after ≡ before
+  pub none : result ≢ s.InputFault → after ≡ before
   pub some : result ≡ s.InputFault → Rose before after
 
 -- an answer but Going comes again
@@ -123,13 +143,45 @@ pub record CutShort (c : CProgram) (input : List ℕ) (most : ℕ) (written writ
   pub within : steps ≤ most
   pub cut : GainsPart written written' (told (CRun c input steps))
 
-abbrev pub Ran : CProgram → (input : List ℕ) → ℕ → (written written' : Option (List ℕ)) → e.Ended → Type 0
-Ran c input steps w w' (v.Status status calls) = (output : List ℕ) × (k : List ℕ) × (CRun c input steps ≡ m.End output status k) × (length k ≡ calls) × Gains w w' output
-Ran c input steps w w' v.Spent = (output : List ℕ) × (k : List ℕ) × (CRun c input steps ≡ m.Going output k) × Gains w w' output
-Ran c input steps w w' (v.Stuck kind) = (output : List ℕ) × (CRun c input steps ≡ m.Stuck kind output) × Gains w w' output
-Ran c input steps w w' v.InputFault = (r : Reaches c input steps) × Gains w w' r.output
-Ran c input steps w w' v.OutputFault = CutShort c input steps w w'
-Ran c input steps w w' (v.Memory e) = (r : Reaches c input steps) × Gains w w' r.output
+-- the state after so many steps from the start of `main`
+abbrev pub IsAfter : CProgram → (input : List ℕ) → (steps : ℕ) → State → Type 0
+IsAfter c input steps st = run_from c steps (Onward (start c input)) ≡ Onward st
+
+-- at none of the first steps is a byte asked for where the input is used up: no `getchar` gives -1
+abbrev pub MeetsNoEnd : CProgram → (input : List ℕ) → (steps : ℕ) → Type 0
+MeetsNoEnd c input steps = (j : ℕ) (st : State) → j < steps → IsAfter c input j st → AsksForByte c st → st.input ≢ []
+
+-- the run on the bytes that were taken comes to ask for a byte more than these, for the first time, and all that it writes was put
+pub record WantsInput (c : CProgram) (input : List ℕ) (left' : Option (List ℕ)) (most : ℕ) (written written' : Option (List ℕ)) : Type 0 where
+  pub taken : List ℕ
+  pub loses : o.Loses (Some input) left' taken
+  pub steps : ℕ
+  pub within : steps < most
+  pub state : State
+  pub is : IsAfter c taken steps state
+  pub asks : AsksForByte c state
+  pub used_up : state.input ≡ []
+  pub first : MeetsNoEnd c taken steps
+  pub put : Gains written written' state.output
+
+-- few bytes are taken that no `getchar` asks for: where a run comes to a state, the bytes `ahead` of its input are taken, and the rest is left
+pub record TakesFew (c : CProgram) (input : List ℕ) (left' : Option (List ℕ)) (most : ℕ) : Type 0 where
+  pub steps : ℕ
+  pub within : steps ≤ most
+  pub state : State
+  pub is : IsAfter c input steps state
+  pub ahead : List ℕ
+  pub loses : o.Loses (Some state.input) left' ahead
+  pub few : AreFew c state ahead
+
+-- what a run tells by its answer
+abbrev pub Ran : CProgram → (input : List ℕ) → (left' : Option (List ℕ)) → ℕ → (written written' : Option (List ℕ)) → e.Ended → Type 0
+Ran c input left' steps w w' (v.Status status calls) = (output : List ℕ) × (k : List ℕ) × (CRun c input steps ≡ m.End output status k) × (length k ≡ calls) × Gains w w' output
+Ran c input left' steps w w' v.Spent = (output : List ℕ) × (k : List ℕ) × (CRun c input steps ≡ m.Going output k) × Gains w w' output
+Ran c input left' steps w w' (v.Stuck kind) = (output : List ℕ) × (CRun c input steps ≡ m.Stuck kind output) × Gains w w' output
+Ran c input left' steps w w' v.InputFault = ((r : Reaches c input steps) × Gains w w' r.output) × WantsInput c input left' steps w w'
+Ran c input left' steps w w' v.OutputFault = CutShort c input steps w w'
+Ran c input left' steps w w' (v.Memory e) = (r : Reaches c input steps) × Gains w w' r.output
 
 -- the answer of a run that is over, where so many calls were counted
 abbrev pub ended_by : ℕ → Stepped → e.Ended
@@ -140,9 +192,9 @@ ended_by calls s.InputFault = v.InputFault
 ended_by calls s.OutputFault = v.OutputFault
 ended_by calls (s.Memory error) = v.Memory error
 
--- source and sink failed where the answer says so, and else not, but maybe the source where the sink failed too
+-- source and sink failed where the answer says so, and else not
 pub record RunFaults (taken taken' put put' : ℕ) (result : e.Ended) : Type 0 where
-  pub no_input : result ≢ v.InputFault → result ≢ v.OutputFault → taken' ≡ taken
+  pub no_input : result ≢ v.InputFault → taken' ≡ taken
   pub input : result ≡ v.InputFault → Rose taken taken'
   pub no_output : result ≢ v.OutputFault → put' ≡ put
   pub output : result ≡ v.OutputFault → Rose put put'

@@ -7,11 +7,12 @@ use Rattle.c_tree.specs.declared.program.CVariable.{CVariable}
 use Rattle.c_tree.specs.declared.program.CFunction.{CFunction}
 use Rattle.c_tree.specs.declared.program.CProgram.{CProgram}
 use Rattle.c_meaning.specs.Types as y
-use Rattle.c_meaning.specs.Evaluate.{View}
+use Rattle.c_meaning.specs.Answer.{Got}
+use Rattle.c_meaning.specs.Evaluate.{View, Site, place}
 use Rattle.c_meaning.specs.States as m
 use Rattle.c_meaning.specs.States.{State, view}
 use Rattle.c_meaning.specs.Steps as n
-use Rattle.c_meaning.specs.Steps.{Next, names_from}
+use Rattle.c_meaning.specs.Steps.{Next, names_from, view_of, CStep}
 use Rattle.c_meaning.specs.Cells.{Name}
 use Rattle.c_stepper.specs.Spots.{list_in, todo_of}
 use Rattle.c_evaluation.specs.declared.halt.Halt.{Halt}
@@ -134,6 +135,20 @@ reads_in (Some s) = is_reading s
 -- whether a `getchar` comes next
 abbrev pub reads_here : CProgram → Frame → Bool
 reads_here c f = reads_in (statement_at c f)
+
+-- the state asks for a byte: a `getchar` comes next, and its place is found
+pub record AsksForByte (c : CProgram) (st : State) : Type 0 where
+  pub at : t.Place
+  pub rest : List Statement
+  pub next : st.frame.todo ≡ t.GetChar at ∷ rest
+  pub site : Site
+  pub found : place (view_of c st) at ≡ Got site
+
+-- it does so, or its step is stuck; nothing is told where memory is short
+abbrev pub Seeks : CProgram → State → Result (Unit {0}) Halt → Type 0
+Seeks c st (Ok done) = AsksForByte c st
+Seeks c st (Err (Stuck kind)) = n.Halted kind st.output ≡ CStep c st
+Seeks c st (Err Memory) = Unit {0}
 
 -- the function that runs and those that wait for it are the same ones
 pub record Stays (old new : Runner) : Type 0 where

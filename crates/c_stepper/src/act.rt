@@ -3,7 +3,7 @@ ghost use Rattle.std.specs.Prelude.{◌≡◌, ◌+◌, ◌<◌, ◌^◌, ℕ, L
 ghost use Rattle.std.specs.Option.{option_copied};
 ghost use Rattle.c_meaning.specs.Steps.{do_statement, CStep, after_byte};
 ghost use Rattle.c_stepper.specs.Spots.{list_in, todo_at};
-ghost use Rattle.c_stepper.specs.Runners.{state_of, runner_view, body_at, first_of, FitsFrames, IsSettled, statement_at, is_reading, reads_here, Acts};
+ghost use Rattle.c_stepper.specs.Runners.{state_of, runner_view, body_at, first_of, FitsFrames, IsSettled, statement_at, is_reading, reads_here, Seeks, Acts};
 
 use crate::runner::{Done, Runner, written_text};
 use crate::spot::{at, list_at};
@@ -52,6 +52,33 @@ impl Runner {
         match self.current(program) {
             Some(statement) => is_reading(statement),
             None => false,
+        }
+    }
+
+    /// Whether the `getchar` that comes next has a place for its byte.
+    pub fn seek(&self, program: &CProgram) -> Result<(), Halt>
+        requires fits { FitsFrames program.now self.now }
+        requires reads { reads_here program.now self.now.frame ≡ true }
+        ensures { (input output calls : List ℕ)
+            → Seeks program.now (state_of program.now self.now input output calls) result }
+    {
+        match self.current(program) {
+            None => unreachable!(),
+            Some(statement) => self.seek_place(program, statement),
+        }
+    }
+
+    #[tactic(auto, using(crate::proofs::Seeking::sought))]
+    fn seek_place(&self, program: &CProgram, statement: &CStatement) -> Result<(), Halt>
+        requires fits { FitsFrames program.now self.now }
+        requires here { statement_at program.now self.now.frame ≡ Some statement.now }
+        requires reads { is_reading statement.now ≡ true }
+        ensures { (input output calls : List ℕ)
+            → Seeks program.now (state_of program.now self.now input output calls) result }
+    {
+        match &statement.node {
+            CStatementNode::GetChar(place) => self.finds(program, place),
+            _ => unreachable!(),
         }
     }
 

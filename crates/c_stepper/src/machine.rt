@@ -1,12 +1,12 @@
 //! A machine that runs a program.
-ghost use Rattle.std.specs.Prelude.{◌≡◌, ◌≢◌, ◌<◌, ◌≤◌, ◌+◌, ◌++◌, ◌∷◌, ℕ, Option, List, [], Err, Ok, IfOk, Some, None, true, false, length};
+ghost use Rattle.std.specs.Prelude.{◌≡◌, ◌≢◌, ◌<◌, ◌≤◌, ◌⊎◌, ◌+◌, ◌++◌, ◌∷◌, ℕ, Option, List, [], Err, Ok, IfOk, Some, None, true, false, length};
 ghost use Rattle.c_meaning.specs.Steps.{Next, CStep};
 ghost use Rattle.p2c_outside.specs.Counts.{Rose};
 ghost use Rattle.p2c_outside.specs.Told.{Gains, IsEmpty};
 ghost use Rattle.held_bytes.specs.Written.{GainsPart};
-ghost use Rattle.held_bytes.specs.Held.{bytes_in};
-ghost use Rattle.c_stepper.specs.Runners.{IsSettled, reads_here, Acts};
-ghost use Rattle.c_stepper.specs.Machines.{stood, IsFor, Begins, Steps, Closes, Writes, IsOver, SameBut, PutFaults, TakeFaults, RunFaults, Ran, ended_by};
+ghost use Rattle.held_bytes.specs.Held.{bytes_in, IsDry};
+ghost use Rattle.c_stepper.specs.Runners.{FitsFrames, IsSettled, reads_here, Acts};
+ghost use Rattle.c_stepper.specs.Machines.{stood, IsFor, Begins, Steps, Takes, Closes, Writes, IsOver, SameBut, PutFaults, TakeFaults, RunFaults, Ran, TakesFew, ended_by};
 
 use crate::runner::{Done, Runner};
 use c_evaluation::halt::Halt;
@@ -90,6 +90,7 @@ impl Machine {
         ensures closed { Closes self.old.output.bytes.items (O.written out.old) (O.written out.new) answer result }
         ensures over { self.new.over ≡ Some result }
         ensures empty { self.new.output.bytes.items ≡ [] }
+        ensures nothing { self.old.output.bytes.items ≡ [] → result ≡ answer }
         ensures stays { SameBut self.old self.new }
         ensures faults { PutFaults (O.faults out.old) (O.faults out.new) result }
     {
@@ -109,6 +110,7 @@ impl Machine {
         ensures empty { self.new.output.bytes.items ≡ [] }
         ensures stays { SameBut self.old self.new }
         ensures faults { PutFaults (O.faults out.old) (O.faults out.new) result }
+        ensures nothing { self.old.output.bytes.items ≡ [] → result ≢ Stepped.OutputFault }
         ensures not_going { result ≢ Stepped.Going }
         ensures no_input { result ≢ Stepped.InputFault }
     {
@@ -200,6 +202,73 @@ impl Machine {
         }
     }
 
+    /// A `getchar` where a byte is held, or the end was met.
+    fn read_held<O: Sink>(&mut self, program: &CProgram, out: &mut O) -> Stepped
+        requires fits { FitsFrames program.now self.old.runner }
+        requires counted { self.old.calls ≤ self.old.taken }
+        requires held { length self.old.output.bytes.items < 4096 }
+        requires piece { length (bytes_in self.old.input) ≤ 4096 }
+        requires going { self.old.over ≡ None }
+        requires settled { IsSettled program.now self.old.runner.frame }
+        requires reads { reads_here program.now self.old.runner.frame ≡ true }
+        requires few { self.old.taken < 1000000000000000000 }
+        ensures step { (left output calls : List ℕ) → (bytes_in self.old.input ≡ [] → left ≡ []) → length calls ≡ self.old.calls
+            → Steps program.now self.old.output.bytes.items self.old.calls self.new (Some left) (O.written out.old) (O.written out.new) output calls result (CStep program.now (stood program.now self.old left output calls)) }
+        ensures is_for { IsFor program.now self.new }
+        ensures over { IsOver self.old self.new result }
+        ensures taken { result ≡ Stepped.Going → self.new.taken ≡ self.old.taken + 1 }
+        ensures end { self.new.input.over ≡ self.old.input.over }
+        ensures empty { self.old.output.bytes.items ≡ [] → self.new.output.bytes.items ≡ [] }
+        ensures nothing { self.old.output.bytes.items ≡ [] → result ≢ Stepped.OutputFault }
+        ensures no_input { result ≢ Stepped.InputFault }
+        ensures faults { PutFaults (O.faults out.old) (O.faults out.new) result }
+    {
+        match self.runner.read(program, self.input.first()) {
+            Ok(_) => {
+                self.input.advance();
+                self.taken += 1;
+                Stepped::Going
+            }
+            Err(halt) => self.halt(halt, out),
+        }
+    }
+
+    /// A `getchar` for which input is taken. What is held is put before.
+    fn read_more<I: Source, O: Sink>(
+        &mut self,
+        program: &CProgram,
+        input: &mut I,
+        out: &mut O,
+    ) -> Stepped
+        requires is_for { IsFor program.now self.old }
+        requires going { self.old.over ≡ None }
+        requires settled { IsSettled program.now self.old.runner.frame }
+        requires reads { reads_here program.now self.old.runner.frame ≡ true }
+        requires few { self.old.taken < 1000000000000000000 }
+        requires dry { IsDry self.old.input }
+        ensures takes { Takes program.now self.old self.new (I.left input.old) (I.left input.new) (O.written out.old) (O.written out.new) result }
+        ensures is_for { IsFor program.now self.new }
+        ensures over { IsOver self.old self.new result }
+        ensures taken { result ≡ Stepped.Going → self.new.taken ≡ self.old.taken + 1 }
+        ensures end { self.new.input.over ≡ true → IsEmpty (I.left input.new) }
+        ensures put_first { (input.new ≡ input.old) ⊎ ((self.new.output.bytes.items ≡ []) × (result ≢ Stepped.OutputFault)) }
+        ensures put_faults { PutFaults (O.faults out.old) (O.faults out.new) result }
+        ensures take_faults { TakeFaults (I.faults input.old) (I.faults input.new) result }
+    {
+        if let Err(halt) = self.runner.seek(program) {
+            return self.halt(halt, out);
+        }
+        let Ok(()) = self.output.flush(out) else {
+            self.over = Some(Stepped::OutputFault);
+            return Stepped::OutputFault;
+        };
+        let Ok(()) = self.input.fill(input) else {
+            self.over = Some(Stepped::InputFault);
+            return Stepped::InputFault;
+        };
+        self.read_held(program, out)
+    }
+
     /// A `getchar`.
     fn read<I: Source, O: Sink>(
         &mut self,
@@ -213,26 +282,20 @@ impl Machine {
         requires reads { reads_here program.now self.old.runner.frame ≡ true }
         requires few { self.old.taken < 1000000000000000000 }
         requires end { self.old.input.over ≡ true → IsEmpty (I.left input.old) }
-        ensures step { (left output calls : List ℕ) → I.left input.old ≡ Some left → length calls ≡ self.old.calls
-            → Steps program.now self.old.output.bytes.items self.old.calls self.new (I.left input.new) (O.written out.old) (O.written out.new) output calls result (CStep program.now (stood program.now self.old left output calls)) }
+        ensures takes { Takes program.now self.old self.new (I.left input.old) (I.left input.new) (O.written out.old) (O.written out.new) result }
         ensures is_for { IsFor program.now self.new }
         ensures over { IsOver self.old self.new result }
         ensures taken { result ≡ Stepped.Going → self.new.taken ≡ self.old.taken + 1 }
         ensures end { self.new.input.over ≡ true → IsEmpty (I.left input.new) }
         ensures untaken { self.old.input.over ≡ true → input.new ≡ input.old }
+        ensures put_first { (input.new ≡ input.old) ⊎ ((self.new.output.bytes.items ≡ []) × (result ≢ Stepped.OutputFault)) }
         ensures put_faults { PutFaults (O.faults out.old) (O.faults out.new) result }
         ensures take_faults { TakeFaults (I.faults input.old) (I.faults input.new) result }
     {
-        let Ok(byte) = self.input.next(input) else {
-            return self.close(Stepped::InputFault, out);
-        };
-        match self.runner.read(program, byte) {
-            Ok(_) => {
-                self.input.advance();
-                self.taken += 1;
-                Stepped::Going
-            }
-            Err(halt) => self.halt(halt, out),
+        if self.input.is_dry() {
+            self.read_more(program, input, out)
+        } else {
+            self.read_held(program, out)
         }
     }
 
@@ -248,12 +311,16 @@ impl Machine {
         requires end { self.old.input.over ≡ true → IsEmpty (I.left input.old) }
         ensures step { self.old.over ≡ None → (left output calls : List ℕ) → I.left input.old ≡ Some left → length calls ≡ self.old.calls
             → Steps program.now self.old.output.bytes.items self.old.calls self.new (I.left input.new) (O.written out.old) (O.written out.new) output calls result (CStep program.now (stood program.now self.old left output calls)) }
+        ensures takes { self.old.over ≡ None
+            → Takes program.now self.old self.new (I.left input.old) (I.left input.new) (O.written out.old) (O.written out.new) result }
         ensures again { (answer : Stepped) → self.old.over ≡ Some answer → (result ≡ answer) × (self.new ≡ self.old) × (input.new ≡ input.old) × (out.new ≡ out.old) }
         ensures over { self.old.over ≡ None → IsOver self.old self.new result }
         ensures is_for { IsFor program.now self.new }
         ensures taken { self.old.over ≡ None → result ≡ Stepped.Going → self.new.taken ≡ self.old.taken + 1 }
         ensures end { self.new.input.over ≡ true → IsEmpty (I.left input.new) }
         ensures untaken { self.old.input.over ≡ true → input.new ≡ input.old }
+        // where input is taken, all that was written is put before
+        ensures put_first { (input.new ≡ input.old) ⊎ ((self.new.output.bytes.items ≡ []) × (result ≢ Stepped.OutputFault)) }
         ensures put_faults { self.old.over ≡ None → PutFaults (O.faults out.old) (O.faults out.new) result }
         ensures take_faults { self.old.over ≡ None → TakeFaults (I.faults input.old) (I.faults input.new) result }
     {
@@ -295,7 +362,8 @@ fn run_from<I: Source, O: Sink>(
     requires few { steps ≤ 1000000000000000000 }
     requires is_for { IsFor program.now machine }
     requires begins { Begins program.now machine }
-    ensures ran { (bytes : List ℕ) → I.left input.old ≡ Some bytes → Ran program.now bytes steps (O.written out.old) (O.written out.new) result }
+    ensures ran { (bytes : List ℕ) → I.left input.old ≡ Some bytes → Ran program.now bytes (I.left input.new) steps (O.written out.old) (O.written out.new) result }
+    ensures ahead { (bytes : List ℕ) → I.left input.old ≡ Some bytes → TakesFew program.now bytes (I.left input.new) steps }
     ensures faults { RunFaults (I.faults input.old) (I.faults input.new) (O.faults out.old) (O.faults out.new) result }
 {
     let mut machine = machine;
@@ -320,7 +388,8 @@ pub fn run<I: Source, O: Sink>(
     out: &mut O,
 ) -> Ended
     requires { steps ≤ 1000000000000000000 }
-    ensures ran { (bytes : List ℕ) → I.left input.old ≡ Some bytes → Ran program.now bytes steps (O.written out.old) (O.written out.new) result }
+    ensures ran { (bytes : List ℕ) → I.left input.old ≡ Some bytes → Ran program.now bytes (I.left input.new) steps (O.written out.old) (O.written out.new) result }
+    ensures ahead { (bytes : List ℕ) → I.left input.old ≡ Some bytes → TakesFew program.now bytes (I.left input.new) steps }
     ensures faults { RunFaults (I.faults input.old) (I.faults input.new) (O.faults out.old) (O.faults out.new) result }
 {
     match Machine::new(alloc, program) {

@@ -2,9 +2,10 @@
 ghost use Rattle.std.specs.Prelude.{◌≡◌, ◌+◌, ◌<◌, ◌^◌, ℕ, List, Some, IfOk, slice_get};
 ghost use Rattle.c_tree.specs.Tree as t;
 ghost use Rattle.c_tree.specs.Tree.{body_of};
+ghost use Rattle.c_meaning.specs.Evaluate as v;
 ghost use Rattle.c_meaning.specs.Steps as m;
 ghost use Rattle.c_meaning.specs.Steps.{do_statement, after_byte};
-ghost use Rattle.c_evaluation.specs.Stores.{Stores, byte_stored, address_stored, without_one, Frees, freed_of};
+ghost use Rattle.c_evaluation.specs.Stores.{Stores, Finds, byte_stored, address_stored, without_one, Frees, freed_of};
 ghost use Rattle.c_stepper.specs.Spots.{list_in, todo_at};
 ghost use Rattle.c_evaluation.specs.Scopes.{view_at, HasRoom};
 ghost use Rattle.c_stepper.specs.Runners.{state_of, runner_view, body_at, text_at, text_of, first_of, FitsFrame, Stays, Acts};
@@ -16,7 +17,7 @@ use c_cells::fresh::fresh_block;
 use c_cells::memory::Memory;
 use c_evaluation::halt::Halt;
 use c_evaluation::scope::Scope;
-use c_evaluation::store::{Store, assigned, freed, got, malloced, put, test};
+use c_evaluation::store::{Store, assigned, found, freed, got, malloced, put, test};
 use c_meaning::StuckKind;
 use c_tree::expr::{CExpr, CPlace};
 use c_tree::program::{CProgram, CVariable};
@@ -126,6 +127,15 @@ impl Runner {
     {
         let scope = self.scope(program);
         assigned(&scope, place, e)
+    }
+
+    /// Whether the place of `place = getchar();` is there.
+    pub fn finds(&self, program: &CProgram, place: &CPlace) -> Result<(), Halt>
+        requires { FitsFrame program.now self.now.frame }
+        ensures { Finds result (v.place (runner_view program.now self.now) place.now) }
+    {
+        let scope = self.scope(program);
+        found(&scope, place)
     }
 
     /// The store of `place = getchar();` where this is the byte that comes next.

@@ -7,7 +7,7 @@ use crate::machine::{Ended, run};
 use crate::tests::bodies::{Case, statements_of};
 use crate::tests::program::program_of;
 use c_meaning::StuckKind;
-use p2c_outside::{CalmSource, MemorySink};
+use p2c_outside::{CalmSource, MemorySink, MemorySource};
 use std::alloc::{AllocError, Global};
 use std::test::Fail;
 
@@ -320,5 +320,68 @@ fn a_sink_that_fails_ends_the_run(rt: HostRuntime) -> Result<(), Fail> {
     let (ended, bytes) = ran(rt.alloc(), Case::Turns, "", 2, 2)?;
     assert_eq!(rt; ended, Ended::OutputFault);
     assert_eq!(rt; bytes.as_slice(), b"aa".as_slice());
+    Ok(())
+}
+
+/// What a run came to whose source and sink refuse the calls with these numbers: its end, what the
+/// sink took, and how often input was taken.
+fn asked(
+    alloc: Global,
+    case: Case,
+    input: &str,
+    refused_take: u64,
+    refused_put: u64,
+) -> Result<(Ended, Vec<u8>, u64), AllocError> {
+    let program = program_of(alloc, statements_of(alloc, case)?)?;
+    let mut source = MemorySource {
+        bytes: Vec::from_slice(alloc, input.as_bytes())?,
+        at: 0,
+        most: 4096,
+        calls: 0,
+        fail: vec![in alloc; refused_take]?,
+        faults: 0,
+    };
+    let mut sink = MemorySink::new(alloc, 4096, 4096, vec![in alloc; refused_put]?)?;
+    let ended = run(alloc, &program, 100, &mut source, &mut sink);
+    Ok((ended, sink.bytes, source.calls))
+}
+
+#[test]
+fn a_prompt_is_put_before_input_is_taken(rt: HostRuntime) -> Result<(), Fail> {
+    let done = Ended::Status {
+        status: 0,
+        calls: 0,
+    };
+    let table = [
+        (Case::Prompts, "q", 0, 0, done, "?q", 1),
+        (Case::Prompts, "q", 1, 0, Ended::InputFault, "?", 1),
+        (Case::Prompts, "q", 0, 1, Ended::OutputFault, "", 0),
+        (
+            Case::Prompts,
+            "",
+            0,
+            0,
+            Ended::Stuck(StuckKind::BadByteValue),
+            "?",
+            1,
+        ),
+        (Case::ReadsPastTheEnd, "", 0, 0, done, "", 1),
+        (Case::ReadsPastTheEnd, "q", 0, 0, done, "", 2),
+        (
+            Case::ReadsNowhere,
+            "q",
+            0,
+            0,
+            Ended::Stuck(StuckKind::NullUse),
+            "",
+            0,
+        ),
+    ];
+    for (case, input, refused_take, refused_put, want, written, takes) in table {
+        let (ended, bytes, calls) = asked(rt.alloc(), case, input, refused_take, refused_put)?;
+        assert_eq!(rt; ended, want);
+        assert_eq!(rt; bytes.as_slice(), written.as_bytes());
+        assert_eq!(rt; calls, takes);
+    }
     Ok(())
 }

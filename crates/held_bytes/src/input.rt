@@ -10,5 +10,6 @@ pub struct HeldInput {
     /// Whether a call gave no byte.
     pub over: bool,
     pub ghost has_room: { 1 ≤ vec_len buffer },
+    pub ghost is_piece: { vec_len buffer ≤ 4096 },
     pub ghost within: { end ≤ vec_len buffer },
 }

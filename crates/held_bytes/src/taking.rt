@@ -1,8 +1,8 @@
 //! Input that is taken in pieces.
-ghost use Rattle.std.specs.Prelude.{◌≡◌, ◌≢◌, IfOk, OnOk, OnErr, true, false, []};
+ghost use Rattle.std.specs.Prelude.{◌≡◌, ◌≤◌, ◌↔◌, IsTrue, IfOk, OnOk, OnErr, true, false, [], length};
 ghost use Rattle.p2c_outside.specs.Counts.{Rose};
-ghost use Rattle.p2c_outside.specs.Told.{IsEmpty};
-ghost use Rattle.held_bytes.specs.Held.{bytes_in, still, ComesNext, rest_of};
+ghost use Rattle.p2c_outside.specs.Told.{Loses, IsEmpty};
+ghost use Rattle.held_bytes.specs.Held.{bytes_in, IsDry, first_of, rest_of};
 
 use crate::input::HeldInput;
 use crate::writing::PIECE;
@@ -24,33 +24,47 @@ impl HeldInput {
         })
     }
 
-    /// The byte that is read next, or none at the end. A piece is taken where none is held.
-    pub fn next<I: Source>(&mut self, input: &mut I) -> Result<Option<u8>, Failed>
-        requires { self.old.over ≡ true → IsEmpty (I.left input.old) }
-        ensures same { still (bytes_in self.new) (I.left input.new) ≡ still (bytes_in self.old) (I.left input.old) }
-        ensures next { IfOk result (ComesNext (still (bytes_in self.new) (I.left input.new))) }
-        ensures held { OnOk result (bytes_in self.new ≡ [] → IsEmpty (I.left input.new)) }
-        ensures over { self.new.over ≡ true → IsEmpty (I.left input.new) }
-        ensures untaken { self.old.over ≡ true → input.new ≡ input.old }
-        ensures unneeded { bytes_in self.old ≢ [] → input.new ≡ input.old }
-        ensures no_fault { OnOk result (I.faults input.new ≡ I.faults input.old) }
-        ensures refused { OnErr result (Rose (I.faults input.old) (I.faults input.new)) }
+    /// Whether input has to be taken before a byte is read.
+    #[tactic(auto, using(crate::proofs::HeldRest::held_some))]
+    pub fn is_dry(&self) -> bool
+        ensures { IsTrue result ↔ IsDry self.now }
     {
         if self.at < self.end {
-            return Ok(Some(self.buffer[self.at]));
+            return false;
         }
-        if self.over {
-            return Ok(None);
-        }
+        !self.over
+    }
+
+    /// Takes a piece, or meets the end.
+    pub fn fill<I: Source>(&mut self, input: &mut I) -> Result<(), Failed>
+        requires { IsDry self.old }
+        ensures taken { Loses (I.left input.old) (I.left input.new) (bytes_in self.new) }
+        ensures few { length (bytes_in self.new) ≤ 4096 }
+        ensures filled { OnOk result (bytes_in self.new ≡ [] → self.new.over ≡ true) }
+        ensures over { self.new.over ≡ true → IsEmpty (I.left input.new) }
+        ensures no_fault { OnOk result (I.faults input.new ≡ I.faults input.old) }
+        ensures refused { OnErr result (Rose (I.faults input.old) (I.faults input.new)) }
+        ensures dry { OnErr result (IsDry self.new) }
+    {
         self.at = 0;
         self.end = 0;
         let count = input.take(&mut self.buffer)?;
         if count == 0 {
             self.over = true;
-            return Ok(None);
         }
         self.end = count;
-        Ok(Some(self.buffer[0]))
+        Ok(())
+    }
+
+    /// The byte that is read next, or none at the end.
+    pub fn first(&self) -> Option<u8>
+        ensures { result ≡ first_of (bytes_in self.now) }
+    {
+        if self.at < self.end {
+            Some(self.buffer[self.at])
+        } else {
+            None
+        }
     }
 
     /// One more byte is read, where one is held.

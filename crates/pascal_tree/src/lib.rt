@@ -12,6 +12,7 @@ mod constants;
 mod declarations;
 mod expressions;
 mod files;
+mod heights;
 mod names;
 mod statements;
 mod types;
@@ -28,6 +29,7 @@ pub use expressions::{
     Simple, Term,
 };
 pub use files::{Head, Module, Program, Public, Publics, SourceFile, UnitNode, Uses};
+pub use heights::height;
 pub use names::{Identifier, Identifiers, Label, Labels};
 pub use statements::{Arm, Arms, Direction, Plain, Rest, Stmt, Stmts};
 pub use types::{

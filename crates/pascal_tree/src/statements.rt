@@ -53,6 +53,8 @@ pub enum Plain {
     Case {
         selector: Expr,
         arms: Arms,
+        /// Whether a semicolon stands after the last arm.
+        closed: bool,
         rest: Option<Rest>,
         span: Span,
     },

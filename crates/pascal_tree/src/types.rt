@@ -70,6 +70,8 @@ pub enum Struct {
 pub struct Fields {
     pub fixed: Option<Fixed>,
     pub variants: Option<Boxed<Variants>>,
+    /// Whether a semicolon stands before the end.
+    pub closed: bool,
     pub span: Span,
 }
 

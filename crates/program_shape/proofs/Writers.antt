@@ -1,4 +1,4 @@
--- The C program that writes bytes calls nothing, and has no loop and no jump.
+-- The C program that writes bytes calls nothing, and has no loop and no jump back.
 use Rattle.std.proofs.Common.{◌≡◌, ℕ, zero, suc, List, [], ◌∷◌, ◌++◌, map, Some, refl, subst, sym, ◌∙◌, arith}
 use Rattle.std.specs.List.{Contains}
 use Rattle.c_tree.specs.Tree.{Return, Number}

@@ -20,7 +20,7 @@ pub fn run_text<I: Source, O: Sink>(
 ) -> Result<Ended, CTextFault>
     requires short { length bytes.now ≤ LONGEST_INPUT }
     requires few { steps ≤ 1000000000000000000 }
-    ensures ran { IfOk result (IsRun bytes.now steps (I.left input.old) (O.written out.old) (O.written out.new)) }
+    ensures ran { IfOk result (IsRun bytes.now steps (I.left input.old) (I.left input.new) (O.written out.old) (O.written out.new)) }
     ensures faults { IfOk result (RunFaults (I.faults input.old) (I.faults input.new) (O.faults out.old) (O.faults out.new)) }
     ensures refused { IfErr result (IsFault bytes.now) }
     ensures untouched { IfErr result (λ fault. (input.new ≡ input.old) × (out.new ≡ out.old)) }

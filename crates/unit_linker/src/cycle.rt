@@ -3,7 +3,6 @@
 ghost use Rattle.std.specs.Prelude.{◌≡◌, ◌<◌, length, IfOk, MatchOption};
 ghost use Rattle.std.specs.Option.{option_map};
 ghost use Rattle.unit_linker.specs.Graph as spec;
-ghost use Rattle.unit_linker.specs.Graph as spec;
 ghost use Rattle.unit_linker.specs.Search as search;
 
 use crate::graph::{FileUses, interface_of};

@@ -159,6 +159,9 @@ pub enum Case {
     JumpsNowhere,
     Echoes,
     ReadsTheEnd,
+    ReadsPastTheEnd,
+    ReadsNowhere,
+    Prompts,
     DecidesEarly,
 }
 
@@ -347,6 +350,26 @@ fn reads_the_end(alloc: Global) -> Result<Body, AllocError> {
     then(read, give_sum(alloc)?)
 }
 
+/// `x = getchar(); x = getchar(); return 0;`
+fn reads_past_the_end(alloc: Global) -> Result<Body, AllocError> {
+    let read = one(alloc, CStatement::get_char(place(alloc, "x")?))?;
+    let again = then(read, CStatement::get_char(place(alloc, "x")?))?;
+    then(again, give(0))
+}
+
+/// `*p = getchar(); return 0;`
+fn reads_nowhere(alloc: Global) -> Result<Body, AllocError> {
+    let target = CPlace::pointee(alloc, get(alloc, "p")?)?;
+    then(one(alloc, CStatement::get_char(target))?, give(0))
+}
+
+/// `putchar(63); x = getchar(); putchar(x); return 0;`
+fn prompts(alloc: Global) -> Result<Body, AllocError> {
+    let asked = one(alloc, put(n(63)))?;
+    let read = then(asked, CStatement::get_char(place(alloc, "x")?))?;
+    then(then(read, put(get(alloc, "x")?))?, give(0))
+}
+
 fn decides_early(alloc: Global) -> Result<Body, AllocError> {
     let late = two(alloc, CBinary::Divide, n(1), n(0))?;
     let early = two(alloc, CBinary::Or, n(1), late)?;
@@ -399,6 +422,9 @@ pub fn statements_of(alloc: Global, case: Case) -> Result<Body, AllocError> {
         Case::JumpsNowhere => jumps_nowhere(alloc),
         Case::Echoes => echoes(alloc),
         Case::ReadsTheEnd => reads_the_end(alloc),
+        Case::ReadsPastTheEnd => reads_past_the_end(alloc),
+        Case::ReadsNowhere => reads_nowhere(alloc),
+        Case::Prompts => prompts(alloc),
         Case::DecidesEarly => decides_early(alloc),
     }
 }

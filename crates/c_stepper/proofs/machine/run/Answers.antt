@@ -1,5 +1,12 @@
-use Rattle.c_stepper.proofs.Running.{none_ran}
+use Rattle.std.proofs.Common.{sym, subst, List, ℕ, Option}
+use Rattle.c_stepper.specs.Machines.{Ran, TakesFew}
+use Rattle.c_stepper.specs.declared.machine.Ended as e
+use Rattle.c_stepper.proofs.Running.{none_ran, none_taken}
 use Rattle.c_stepper.proofs.machine.run.Goals as goal
 
 pub returns-in-Err-clause-ran : goal.returns-in-Err-clause-ran
 returns-in-Err-clause-ran g c = λ bytes is. none_ran c.args.program.now bytes c.args.steps (g.O.Sink.written c.args.out.now)
+
+pub returns-in-Err-clause-ahead : goal.returns-in-Err-clause-ahead
+returns-in-Err-clause-ahead g c = λ bytes is.
+    subst (λ (o : Option (List ℕ)). TakesFew c.args.program.now bytes o c.args.steps) (sym is) (none_taken c.args.program.now bytes c.args.steps)

@@ -4,7 +4,7 @@ use Rattle.c_stepper.specs.Machines.{Ran, RunFaults, ended_by}
 use Rattle.c_stepper.specs.declared.machine.Stepped.{Stepped}
 use Rattle.c_stepper.specs.declared.machine.Stepped.TheVariants as s
 use Rattle.c_stepper.specs.declared.machine.Ended as e
-use Rattle.c_stepper.proofs.Running.{Stands, begins_so, goes, over, faults_of, spent_so}
+use Rattle.c_stepper.proofs.Running.{Along, along_at_start, along, ends_run, takes_few, last_put, last_few, faults_of}
 use Rattle.c_stepper.proofs.machine.run_from.Goals as goal
 
 pub loop-left-init : goal.loop-left-init
@@ -18,7 +18,7 @@ loop-left-init g c =
       going = b.going;
       taken = let t = b.taken in omega (arith, t);
       end = λ h. absurd (let k : ◌≡◌ {A = Bool} true false = sym h ∙ b.input in cc);
-      stands = λ bytes is. subst (λ (o : Option (List ℕ)). Stands p bytes m o w w) (sym is) (begins_so p bytes m w b);
+      along = λ bytes is. subst (λ (o : Option (List ℕ)). Along p bytes m o w w) (sym is) (along_at_start p bytes m w b);
       no_input = refl;
       no_output = refl;
     }
@@ -36,10 +36,9 @@ loop-left-preserved g c =
       going = (told.over i.going).going refl ∙ i.going;
       taken = omega (arith, more, i.taken, c.loop-left-test.true);
       end = told.end;
-      stands = λ bytes is.
-          let h = i.stands bytes is in
-          goes p bytes old (g.I.Source.left c.loop-left.input) (g.O.Sink.written c.args.out.now) (g.O.Sink.written c.loop-left.out) h new (g.I.Source.left c.step.new.input) (g.O.Sink.written c.step.new.out) (told.step i.going h.left h.output h.calls h.input h.count) more;
-      no_input = (told.take_faults i.going).none (λ e. cc) (λ e. cc) ∙ i.no_input;
+      along = λ bytes is.
+          along p bytes old new (g.I.Source.left c.loop-left.input) (g.I.Source.left c.step.new.input) (g.O.Sink.written c.args.out.now) (g.O.Sink.written c.loop-left.out) (g.O.Sink.written c.step.new.out) s.Going (i.along bytes is) (told.takes i.going) more refl;
+      no_input = (told.take_faults i.going).none (λ e. cc) ∙ i.no_input;
       no_output = (told.put_faults i.going).none (λ e. cc) ∙ i.no_output;
     }
 
@@ -53,6 +52,8 @@ returns-in_default g c =
     let told = c.step.ensures in
     let w = g.O.Sink.written c.args.out.now in
     let w2 = g.O.Sink.written c.step.new.out in
+    let left0 = g.I.Source.left c.loop-left.input in
+    let left1 = g.I.Source.left c.step.new.input in
     let gives = c.last_answer.ensures in
     let same = c.in_default.answer-is in
     let last : c.last_answer.result ≡ ended_by new.calls a = cc in
@@ -60,9 +61,9 @@ returns-in_default g c =
     let within : old.taken + 1 ≤ c.args.steps = omega (arith, i.taken, c.loop-left-test.true) in
     record {
       ran = λ bytes is.
-          let h = i.stands bytes is in
-          subst (λ (r : e.Ended). Ran p bytes c.args.steps w w2 r) (sym last)
-          (over p bytes old (g.I.Source.left c.loop-left.input) w (g.O.Sink.written c.loop-left.out) h new (g.I.Source.left c.step.new.input) w2 c.args.steps a within n (told.step i.going h.left h.output h.calls h.input h.count));
+          subst (λ (r : e.Ended). Ran p bytes left1 c.args.steps w w2 r) (sym last)
+          (ends_run p bytes old new left0 left1 w (g.O.Sink.written c.loop-left.out) w2 a (i.along bytes is) (told.takes i.going) told.end c.args.steps within n);
+      ahead = λ bytes is. takes_few p bytes old new left0 left1 w (g.O.Sink.written c.loop-left.out) w2 a (i.along bytes is) (told.takes i.going) told.end c.args.steps within;
       faults =
           subst (λ (t : ℕ). RunFaults t (g.I.Source.faults c.step.new.input) (g.O.Sink.faults c.args.out.now) (g.O.Sink.faults c.step.new.out) c.last_answer.result) i.no_input
           (subst (λ (t : ℕ). RunFaults (g.I.Source.faults c.loop-left.input) (g.I.Source.faults c.step.new.input) t (g.O.Sink.faults c.step.new.out) c.last_answer.result) i.no_output
@@ -75,11 +76,20 @@ returns-clause-ran g c = λ bytes is.
     let p = c.args.program.now in
     let old = c.loop-left.machine in
     let i = c.loop-left.invariant in
+    let left = g.I.Source.left c.loop-left.input in
     let w = g.O.Sink.written c.args.out.now in
     let w1 = g.O.Sink.written c.loop-left.out in
     let w2 = g.O.Sink.written c.spend.new.out in
     let done : old.taken ≡ c.args.steps = omega (arith, i.taken, c.loop-left-test.false) in
     let same : Type 0 = g.O.Sink.faults c.spend.new.out ≡ g.O.Sink.faults c.loop-left.out in
     let rose : Type 0 = Rose (g.O.Sink.faults c.loop-left.out) (g.O.Sink.faults c.spend.new.out) in
-    subst (λ (n : ℕ). Ran p bytes n w w2 c.spend.result) done
-    (spent_so p bytes old (g.I.Source.left c.loop-left.input) w w1 w2 same rose c.spend.result (i.stands bytes is) c.spend.ensures.whole c.spend.ensures.part)
+    subst (λ (n : ℕ). Ran p bytes left n w w2 c.spend.result) done
+    (last_put p bytes old left w w1 w2 (i.along bytes is) i.end left same rose c.spend.result c.spend.ensures.whole c.spend.ensures.part)
+
+pub returns-clause-ahead : goal.returns-clause-ahead
+returns-clause-ahead g c = λ bytes is.
+    let p = c.args.program.now in
+    let old = c.loop-left.machine in
+    let i = c.loop-left.invariant in
+    let within : old.taken ≤ c.args.steps = omega (arith, i.taken) in
+    last_few p bytes old (g.I.Source.left c.loop-left.input) (g.O.Sink.written c.args.out.now) (g.O.Sink.written c.loop-left.out) (g.O.Sink.written c.spend.new.out) (i.along bytes is) i.end c.args.steps within (i.is_for.ahead i.going)

@@ -1,0 +1,4 @@
+pub mod ExpressionNodes
+pub mod TypeNodes
+pub mod StatementNodes
+pub mod BlockNodes

@@ -1,0 +1,5 @@
+pub mod Height
+pub mod ExpressionHeights
+pub mod TypeHeights
+pub mod StatementHeights
+pub mod BlockHeights
