@@ -3,8 +3,8 @@ use Rattle.std.proofs.Common.{◌≡◌, ◌≢◌, ℕ, List, Option, Some, Non
 use Rattle.std.specs.Bool.{⊤}
 use Rattle.p2c_outside.specs.Counts.{Rose}
 use Rattle.p2c_outside.specs.Told.{Named}
-use Rattle.p2c_main.specs.Answers.{Answer, AnswersTo, Counts, RunFault, Stays, TranslationAnswer, RunAnswer, IsEarly}
-use Rattle.p2c_main.specs.Executed.{AsksForText, CutsOff, EndsWith, IsOfRun, MayExecutePart, NotRun, OfFile, ReadFails}
+use Rattle.p2c_main.specs.Answers.{Answer, AnswersTo, Counts, RunInput, Stays, TranslationAnswer, RunAnswer, IsEarly}
+use Rattle.p2c_main.specs.Executed.{AsksForText, CutsOff, EndsWith, IsOfRun, MayExecutePart, MayTake, NotRun, OfFile, ReadFails}
 use Rattle.p2c_main.specs.Messages.{message_of, status_of}
 use Rattle.p2c_main.specs.Reading.{Lacks}
 use Rattle.p2c_main.specs.Translated.{AsksForAccepted, IsOfTranslation, Refuses, Translates, TranslatesPart}
@@ -65,9 +65,9 @@ pub run_part_of : {told : Option Named} {task : Option Task} {input old new : Op
     → (steps : ℕ) (name : List ℕ) → task ≡ Some (Running steps name) → s ≡ 245 → MayExecutePart told name steps input old new
 run_part_of {told = told} {task = task} {input = input} {old = old} {new = new} {o = o} a is steps name asked e = by.memory_part told name steps input old new o (of_run told task input old new o steps name a asked) (sym is ∙ e)
 
-pub run_fault_of : {told : Option Named} {task : Option Task} {input old new : Option (List ℕ)} {o : Outcome} {s : ℕ} {failed taken kept : Type 0} → Answer told task input old new o → s ≡ status_of o
-    → RunFault task failed taken kept told input old new o → (steps : ℕ) (name : List ℕ) → task ≡ Some (Running steps name) → s ≡ 243 → ReadFails failed taken kept told name steps input old new
-run_fault_of {told = told} {task = task} {input = input} {old = old} {new = new} {o = o} a is fault steps name asked e = fault.why steps name asked (by.read_status o (by.low told task input old new o a.says) (sym is ∙ e))
+pub run_fault_of : {told : Option Named} {task : Option Task} {input input' old new : Option (List ℕ)} {o : Outcome} {s : ℕ} {failed taken kept same : Type 0} → Answer told task input old new o → s ≡ status_of o
+    → RunInput task failed taken kept same told input input' old new o → (steps : ℕ) (name : List ℕ) → task ≡ Some (Running steps name) → s ≡ 243 → ReadFails failed taken kept told name steps input input' old new
+run_fault_of {told = told} {task = task} {input = input} {old = old} {new = new} {o = o} a is run steps name asked e = run.fault steps name asked (by.read_status o (by.low told task input old new o a.says) (sym is ∙ e))
 
 -- ---- what failed
 
@@ -87,8 +87,8 @@ none_missing_of is counts a b = counts.none_missing (λ e. a (is ∙ ap status_o
 pub no_read_fault_of : {task : Option Task} {o : Outcome} {s m m' f f' t t' p p' : ℕ} → s ≡ status_of o → Counts task m m' f f' t t' p p' o → s ≢ 242 → s ≢ 243 → f' ≡ f
 no_read_fault_of is counts a b = counts.no_read_fault (λ e. a (is ∙ ap status_of e)) (λ e. b (is ∙ ap status_of e))
 
-pub no_input_fault_of : {task : Option Task} {o : Outcome} {s m m' f f' t t' p p' : ℕ} → s ≡ status_of o → Counts task m m' f f' t t' p p' o → s ≢ 243 → s ≢ 244 → t' ≡ t
-no_input_fault_of is counts a b = counts.no_input_fault (λ e. a (is ∙ ap status_of e)) (λ e. b (is ∙ ap status_of e))
+pub no_input_fault_of : {task : Option Task} {o : Outcome} {s m m' f f' t t' p p' : ℕ} → s ≡ status_of o → Counts task m m' f f' t t' p p' o → s ≢ 243 → t' ≡ t
+no_input_fault_of is counts a = counts.no_input_fault (λ e. a (is ∙ ap status_of e))
 
 pub no_write_fault_of : {task : Option Task} {o : Outcome} {s m m' f f' t t' p p' : ℕ} → s ≡ status_of o → Counts task m m' f f' t t' p p' o → s ≢ 244 → p' ≡ p
 no_write_fault_of is counts a = counts.no_write_fault (λ e. a (is ∙ ap status_of e))
@@ -135,7 +135,7 @@ still_counts task m f t p o a b c = record {
   write_fault = λ e. absurd (c e);
   none_missing = λ x y. refl;
   no_read_fault = λ x y. refl;
-  no_input_fault = λ x y. refl;
+  no_input_fault = λ x. refl;
   no_write_fault = λ x. refl;
 }
 
@@ -186,23 +186,23 @@ pub run_read_fault : {A : Type 0} (R S K P : Type 0) → A → (R × K) ⊎ (S �
 run_read_fault R S K P a (inl x) = inl x.0
 run_read_fault R S K P a (inr y) = inr (a, y.0)
 
--- why the run of a task could not read
-abbrev failed_as : (failed taken kept : Type 0) → Option Named → (input old new : Option (List ℕ)) → Option Task → Type 0
-failed_as failed taken kept told input old new (Some (Running steps name)) = ReadFails failed taken kept told name steps input old new
-failed_as failed taken kept told input old new _ = ⊤
+-- what the run of a task tells of its input
+abbrev OfInput : (failed taken kept same : Type 0) → Option Named → (input input' old new : Option (List ℕ)) → Outcome → Option Task → Type 0
+OfInput failed taken kept same told input input' old new o (Some (Running steps name)) = (o ≡ ReadFault → ReadFails failed taken kept told name steps input input' old new) × MayTake same told name steps input input'
+OfInput failed taken kept same told input input' old new o _ = ⊤
 
-pub run_fault : {failed taken kept : Type 0} (told : Option Named) (steps : ℕ) (name : List ℕ) (input old new : Option (List ℕ)) (o : Outcome) → (o ≡ ReadFault → ReadFails failed taken kept told name steps input old new)
-    → RunFault (Some (Running steps name)) failed taken kept told input old new o
-run_fault {failed = failed} {taken = taken} {kept = kept} told steps name input old new o fails = record {
-  why = λ n other is e.
-      subst (λ t. failed_as failed taken kept told input old new t) is (fails e);
+pub run_input : {failed taken kept same : Type 0} (told : Option Named) (steps : ℕ) (name : List ℕ) (input input' old new : Option (List ℕ)) (o : Outcome)
+    → (o ≡ ReadFault → ReadFails failed taken kept told name steps input input' old new) → MayTake same told name steps input input' → RunInput (Some (Running steps name)) failed taken kept same told input input' old new o
+run_input {failed = failed} {taken = taken} {kept = kept} {same = same} told steps name input input' old new o fails takes = record {
+  fault = λ n other is. (subst (λ t. OfInput failed taken kept same told input input' old new o t) is (fails, takes)).0;
+  few = λ n other is. (subst (λ t. OfInput failed taken kept same told input input' old new o t) is (fails, takes)).1;
 }
 
--- no run is asked for
-pub no_run_fault : {failed taken kept : Type 0} (told : Option Named) (task : Option Task) (input old new : Option (List ℕ)) (o : Outcome) → ((IsRunning task → ⊥) ⊎ (o ≢ ReadFault))
-    → RunFault task failed taken kept told input old new o
-no_run_fault told task input old new o (inl none) = record { why = λ steps name is e. absurd (none (subst IsRunning (sym is) tt)) }
-no_run_fault told task input old new o (inr none) = record { why = λ steps name is e. absurd (none e) }
+-- nothing was taken, and no run failed to read
+pub no_run_input : {failed taken kept same : Type 0} (told : Option Named) (task : Option Task) (input input' old new : Option (List ℕ)) (o : Outcome) → ((IsRunning task → ⊥) ⊎ (o ≢ ReadFault)) → same
+    → RunInput task failed taken kept same told input input' old new o
+no_run_input told task input input' old new o (inl none) kept = record { fault = λ steps name is e. absurd (none (subst IsRunning (sym is) tt)); few = λ steps name is. inl kept }
+no_run_input told task input input' old new o (inr none) kept = record { fault = λ steps name is e. absurd (none e); few = λ steps name is. inl kept }
 
 -- ---- the line on standard error
 

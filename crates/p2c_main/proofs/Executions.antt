@@ -12,7 +12,7 @@ use Rattle.p2c_outside.specs.Counts.{Rose}
 use Rattle.p2c_outside.specs.Told.{Named, WhereTold, Gains}
 use Rattle.run_core.specs.Answers.{IsRun}
 use Rattle.p2c_main.specs.Answers.{RunAnswer, IsEarly}
-use Rattle.p2c_main.specs.Executed.{Executes, ExecutesPart, InputFails, CutsOff, OfFile, ReadFails, ended_as, outcome_with, outcome_of_run}
+use Rattle.p2c_main.specs.Executed.{Executes, ExecutesPart, InputFails, CutsOff, OfFile, ReadFails, TakesOnly, ended_as, outcome_with, outcome_of_run}
 use Rattle.p2c_main.specs.Reading.{Lacks, outcome_of}
 use Rattle.p2c_main.specs.declared.reading.ReadRefusal.{ReadRefusal}
 use Rattle.p2c_main.specs.declared.reading.ReadRefusal.TheVariants as reading
@@ -20,17 +20,17 @@ use Rattle.p2c_main.specs.declared.outcome.Outcome.{Outcome}
 use Rattle.p2c_main.specs.declared.outcome.Outcome.TheVariants.{Done, Ended, Usage, TooLong, Unbuilt, BadText, Missing, ReadFault, WriteFault, OutOfMemory, Spent, Stuck}
 use Rattle.p2c_main.proofs.Translations.{told_more}
 
-ended_part : (bytes : List ℕ) (steps status calls : ℕ) (input old new : Option (List ℕ)) → IsRun bytes steps input old new (ended.Status status calls) → ExecutesPart bytes steps input old new
-ended_part bytes steps status calls input old new run = record {
+ended_part : (bytes : List ℕ) (steps status calls : ℕ) (input left' old new : Option (List ℕ)) → IsRun bytes steps input left' old new (ended.Status status calls) → ExecutesPart bytes steps input old new
+ended_part bytes steps status calls input left' old new run = record {
   program = run.program;
   text = run.text;
   ran = λ left is. let r = run.ran left is in (steps, omega arith, subst (λ a. Gains old new (told a)) (sym r.2) r.4);
 }
 
-ended_answer : (files : Option Named) (name bytes : List ℕ) (steps status calls : ℕ) (input old new : Option (List ℕ)) (small : Bool) → (IsTrue small → status ≤ 209)
-    → WhereTold files name (λ b. bytes ≡ b) → IsRun bytes steps input old new (ended.Status status calls)
+ended_answer : (files : Option Named) (name bytes : List ℕ) (steps status calls : ℕ) (input left' old new : Option (List ℕ)) (small : Bool) → (IsTrue small → status ≤ 209)
+    → WhereTold files name (λ b. bytes ≡ b) → IsRun bytes steps input left' old new (ended.Status status calls)
     → RunAnswer files name steps input old new (if small then Ended status else OutOfMemory)
-ended_answer files name bytes steps status calls input old new true below whole run = (
+ended_answer files name bytes steps status calls input left' old new true below whole run = (
   below refl,
   (
     bytes,
@@ -42,18 +42,18 @@ ended_answer files name bytes steps status calls input old new true below whole 
     },
   ),
 )
-ended_answer files name bytes steps status calls input old new false below whole run = inr (bytes, whole, ended_part bytes steps status calls input old new run)
+ended_answer files name bytes steps status calls input left' old new false below whole run = inr (bytes, whole, ended_part bytes steps status calls input left' old new run)
 
 at_most : (a b : ℕ) → IsTrue (nat_le a b) → a ≤ b
 at_most a b h = grind (arith, h)
 
 -- the answer of the runner, about the file that was read
-pub run_answer : (files : Option Named) (name bytes : List ℕ) (steps : ℕ) (input old new : Option (List ℕ)) (a : Result e.Ended CTextFault)
-    → WhereTold files name (λ b. bytes ≡ b) → IfOk a (IsRun bytes steps input old new) → IfErr a (IsFault bytes) → IfErr a (λ f. new ≡ old)
+pub run_answer : (files : Option Named) (name bytes : List ℕ) (steps : ℕ) (input left' old new : Option (List ℕ)) (a : Result e.Ended CTextFault)
+    → WhereTold files name (λ b. bytes ≡ b) → IfOk a (IsRun bytes steps input left' old new) → IfErr a (IsFault bytes) → IfErr a (λ f. new ≡ old)
     → RunAnswer files name steps input old new (outcome_of_run a)
-run_answer files name bytes steps input old new (Ok (ended.Status status calls)) whole run fails kept =
-    ended_answer files name bytes steps status calls input old new (nat_le status 209) (at_most status 209) whole run
-run_answer files name bytes steps input old new (Ok ended.Spent) whole run fails kept = (
+run_answer files name bytes steps input left' old new (Ok (ended.Status status calls)) whole run fails kept =
+    ended_answer files name bytes steps status calls input left' old new (nat_le status 209) (at_most status 209) whole run
+run_answer files name bytes steps input left' old new (Ok ended.Spent) whole run fails kept = (
   bytes,
   whole,
   record {
@@ -62,7 +62,7 @@ run_answer files name bytes steps input old new (Ok ended.Spent) whole run fails
     ran = λ left is. let r = run.ran left is in (sym (ap ended_as r.2), subst (λ a. Gains old new (told a)) (sym r.2) r.3);
   },
 )
-run_answer files name bytes steps input old new (Ok (ended.Stuck kind)) whole run fails kept = (
+run_answer files name bytes steps input left' old new (Ok (ended.Stuck kind)) whole run fails kept = (
   bytes,
   whole,
   record {
@@ -71,8 +71,8 @@ run_answer files name bytes steps input old new (Ok (ended.Stuck kind)) whole ru
     ran = λ left is. let r = run.ran left is in (sym (ap ended_as r.1), subst (λ a. Gains old new (told a)) (sym r.1) r.2);
   },
 )
-run_answer files name bytes steps input old new (Ok ended.InputFault) whole run fails kept = tt
-run_answer files name bytes steps input old new (Ok ended.OutputFault) whole run fails kept = (
+run_answer files name bytes steps input left' old new (Ok ended.InputFault) whole run fails kept = tt
+run_answer files name bytes steps input left' old new (Ok ended.OutputFault) whole run fails kept = (
   bytes,
   whole,
   record {
@@ -81,7 +81,7 @@ run_answer files name bytes steps input old new (Ok ended.OutputFault) whole run
     cut = run.ran;
   },
 )
-run_answer files name bytes steps input old new (Ok (ended.Memory error)) whole run fails kept = inr (
+run_answer files name bytes steps input left' old new (Ok (ended.Memory error)) whole run fails kept = inr (
   bytes,
   whole,
   record {
@@ -90,25 +90,40 @@ run_answer files name bytes steps input old new (Ok (ended.Memory error)) whole 
     ran = λ left is. let r = run.ran left is in (r.0.steps, r.0.within, subst (λ a. Gains old new (told a)) (sym r.0.is) r.1);
   },
 )
-run_answer files name bytes steps input old new (Err (fault.At kind line)) whole run fails kept =
+run_answer files name bytes steps input left' old new (Err (fault.At kind line)) whole run fails kept =
     told_more files name (λ b. bytes ≡ b) _ (λ b is. subst (λ s. IsNoText s kind line) is fails) whole
-run_answer files name bytes steps input old new (Err (fault.Memory error)) whole run fails kept = inl kept
+run_answer files name bytes steps input left' old new (Err (fault.Memory error)) whole run fails kept = inl kept
 
 not_read_with : (small : Bool) (status : ℕ) (P : Type 0) → (if small then Ended status else OutOfMemory) ≡ ReadFault → P
 not_read_with true status P e = absurd cc
 not_read_with false status P e = absurd cc
 
 -- a fault in reading is one of the input
-pub input_failed : (bytes : List ℕ) (steps : ℕ) (input old new : Option (List ℕ)) (a : Result e.Ended CTextFault) → IfOk a (IsRun bytes steps input old new) → outcome_of_run a ≡ ReadFault
-    → InputFails bytes steps input old new
-input_failed bytes steps input old new (Ok ended.InputFault) run is = record { program = run.program; text = run.text; ran = run.ran }
-input_failed bytes steps input old new (Ok (ended.Status status calls)) run is = not_read_with (nat_le status 209) status _ is
-input_failed bytes steps input old new (Ok ended.Spent) run is = absurd cc
-input_failed bytes steps input old new (Ok (ended.Stuck kind)) run is = absurd cc
-input_failed bytes steps input old new (Ok ended.OutputFault) run is = absurd cc
-input_failed bytes steps input old new (Ok (ended.Memory error)) run is = absurd cc
-input_failed bytes steps input old new (Err (fault.At kind line)) run is = absurd cc
-input_failed bytes steps input old new (Err (fault.Memory error)) run is = absurd cc
+pub input_failed : (bytes : List ℕ) (steps : ℕ) (input left' old new : Option (List ℕ)) (a : Result e.Ended CTextFault) → IfOk a (IsRun bytes steps input left' old new) → outcome_of_run a ≡ ReadFault
+    → InputFails bytes steps input left' old new
+input_failed bytes steps input left' old new (Ok ended.InputFault) run is = record { program = run.program; text = run.text; ran = run.ran }
+input_failed bytes steps input left' old new (Ok (ended.Status status calls)) run is = not_read_with (nat_le status 209) status _ is
+input_failed bytes steps input left' old new (Ok ended.Spent) run is = absurd cc
+input_failed bytes steps input left' old new (Ok (ended.Stuck kind)) run is = absurd cc
+input_failed bytes steps input left' old new (Ok ended.OutputFault) run is = absurd cc
+input_failed bytes steps input left' old new (Ok (ended.Memory error)) run is = absurd cc
+input_failed bytes steps input left' old new (Err (fault.At kind line)) run is = absurd cc
+input_failed bytes steps input left' old new (Err (fault.Memory error)) run is = absurd cc
+
+-- where the text is run, few bytes are taken ahead
+pub taken_only : {kept : Type 0} (bytes : List ℕ) (steps : ℕ) (input left' old new : Option (List ℕ)) (a : Result e.Ended CTextFault) → IfOk a (IsRun bytes steps input left' old new) → IfErr a (λ f. kept)
+    → kept ⊎ TakesOnly bytes steps input left'
+taken_only bytes steps input left' old new (Ok ended) run kept = inr (record { program = run.program; text = run.text; few = run.ahead })
+taken_only bytes steps input left' old new (Err f) run kept = inl kept
+
+pub kept_input : {I O : Type 0} (input input' : I) (out out' : O) (a : Result e.Ended CTextFault) → IfErr a (λ f. (input' ≡ input) × (out' ≡ out)) → IfErr a (λ f. input' ≡ input)
+kept_input input input' out out' (Ok x) kept = kept
+kept_input input input' out out' (Err f) kept = kept.0
+
+-- of the file that was read
+pub of_file : {kept : Type 0} (files : Option Named) (name bytes : List ℕ) (P : List ℕ → Type 0) → WhereTold files name (λ b. bytes ≡ b) → kept ⊎ P bytes → kept ⊎ OfFile files name P
+of_file files name bytes P whole (inl kept) = inl kept
+of_file files name bytes P whole (inr holds) = inr (bytes, whole, holds)
 
 -- ---- what the outcome says of the answer
 
@@ -128,57 +143,57 @@ never_missing (Err (fault.Memory error)) = λ e. absurd cc
 
 -- the source and the sink failed where the outcome says so, and else not
 pub record DeviceFaults (taken taken' put put' : ℕ) (outcome : Outcome) : Type 0 where
-  pub no_input : outcome ≢ ReadFault → outcome ≢ WriteFault → taken' ≡ taken
+  pub no_input : outcome ≢ ReadFault → taken' ≡ taken
   pub input : outcome ≡ ReadFault → Rose taken taken'
   pub no_output : outcome ≢ WriteFault → put' ≡ put
   pub output : outcome ≡ WriteFault → Rose put put'
 
 with_faults : (small : Bool) (status taken taken' put put' : ℕ) → taken' ≡ taken → put' ≡ put → DeviceFaults taken taken' put put' (if small then Ended status else OutOfMemory)
-with_faults true status taken taken' put put' input output = record { no_input = λ x y. input; input = λ e. absurd cc; no_output = λ x. output; output = λ e. absurd cc }
-with_faults false status taken taken' put put' input output = record { no_input = λ x y. input; input = λ e. absurd cc; no_output = λ x. output; output = λ e. absurd cc }
+with_faults true status taken taken' put put' input output = record { no_input = λ x. input; input = λ e. absurd cc; no_output = λ x. output; output = λ e. absurd cc }
+with_faults false status taken taken' put put' input output = record { no_input = λ x. input; input = λ e. absurd cc; no_output = λ x. output; output = λ e. absurd cc }
 
 pub device_faults : (taken taken' put put' : ℕ) (a : Result e.Ended CTextFault) → IfOk a (RunFaults taken taken' put put') → IfErr a (λ f. (taken' ≡ taken) × (put' ≡ put))
     → DeviceFaults taken taken' put put' (outcome_of_run a)
 device_faults taken taken' put put' (Ok (ended.Status status calls)) run kept =
-    with_faults (nat_le status 209) status taken taken' put put' (run.no_input (λ x. absurd cc) (λ x. absurd cc)) (run.no_output (λ x. absurd cc))
+    with_faults (nat_le status 209) status taken taken' put put' (run.no_input (λ x. absurd cc)) (run.no_output (λ x. absurd cc))
 device_faults taken taken' put put' (Ok ended.Spent) run kept = record {
-  no_input = λ x y. run.no_input (λ z. absurd cc) (λ z. absurd cc);
+  no_input = λ x. run.no_input (λ z. absurd cc);
   input = λ x. absurd cc;
   no_output = λ x. run.no_output (λ z. absurd cc);
   output = λ x. absurd cc;
 }
 device_faults taken taken' put put' (Ok (ended.Stuck kind)) run kept = record {
-  no_input = λ x y. run.no_input (λ z. absurd cc) (λ z. absurd cc);
+  no_input = λ x. run.no_input (λ z. absurd cc);
   input = λ x. absurd cc;
   no_output = λ x. run.no_output (λ z. absurd cc);
   output = λ x. absurd cc;
 }
 device_faults taken taken' put put' (Ok ended.InputFault) run kept = record {
-  no_input = λ x y. absurd (x refl);
+  no_input = λ x. absurd (x refl);
   input = λ x. run.input refl;
   no_output = λ x. run.no_output (λ z. absurd cc);
   output = λ x. absurd cc;
 }
 device_faults taken taken' put put' (Ok ended.OutputFault) run kept = record {
-  no_input = λ x y. absurd (y refl);
+  no_input = λ x. run.no_input (λ z. absurd cc);
   input = λ x. absurd cc;
   no_output = λ x. absurd (x refl);
   output = λ x. run.output refl;
 }
 device_faults taken taken' put put' (Ok (ended.Memory error)) run kept = record {
-  no_input = λ x y. run.no_input (λ z. absurd cc) (λ z. absurd cc);
+  no_input = λ x. run.no_input (λ z. absurd cc);
   input = λ x. absurd cc;
   no_output = λ x. run.no_output (λ z. absurd cc);
   output = λ x. absurd cc;
 }
 device_faults taken taken' put put' (Err (fault.At kind line)) run kept = record {
-  no_input = λ x y. kept.0;
+  no_input = λ x. kept.0;
   input = λ x. absurd cc;
   no_output = λ x. kept.1;
   output = λ x. absurd cc;
 }
 device_faults taken taken' put put' (Err (fault.Memory error)) run kept = record {
-  no_input = λ x y. kept.0;
+  no_input = λ x. kept.0;
   input = λ x. absurd cc;
   no_output = λ x. kept.1;
   output = λ x. absurd cc;
@@ -219,7 +234,7 @@ refused_answer files name steps input old reading.Failed long absent = tt
 refused_answer files name steps input old reading.TooLong long absent = long refl
 refused_answer files name steps input old reading.OutOfMemory long absent = inl refl
 
-pub refused_fails : {failed taken kept : Type 0} (files : Option Named) (name : List ℕ) (steps : ℕ) (input old new : Option (List ℕ)) (r : ReadRefusal) → (r ≡ reading.Failed → failed) → kept → outcome_of r ≡ ReadFault
-    → ReadFails failed taken kept files name steps input old new
-refused_fails files name steps input old new reading.Failed failed kept is = inl (failed refl, kept)
-refused_fails files name steps input old new _ failed kept is = absurd cc
+pub refused_fails : {failed taken kept : Type 0} (files : Option Named) (name : List ℕ) (steps : ℕ) (input left' old new : Option (List ℕ)) (r : ReadRefusal) → (r ≡ reading.Failed → failed) → kept → outcome_of r ≡ ReadFault
+    → ReadFails failed taken kept files name steps input left' old new
+refused_fails files name steps input left' old new reading.Failed failed kept is = inl (failed refl, kept)
+refused_fails files name steps input left' old new _ failed kept is = absurd cc

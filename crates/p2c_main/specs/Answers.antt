@@ -8,7 +8,7 @@ use Rattle.p2c_main.specs.Words.{Task, Translating, Running, IsRunning, name_ask
 use Rattle.p2c_main.specs.Messages.{status_of, message_of}
 use Rattle.p2c_main.specs.Reading.{Lacks}
 use Rattle.p2c_main.specs.Translated.{Translates, TranslatesPart, Refuses}
-use Rattle.p2c_main.specs.Executed.{Executes, CutsOff, OfFile, MayExecutePart, ReadFails}
+use Rattle.p2c_main.specs.Executed.{Executes, CutsOff, OfFile, MayExecutePart, MayTake, ReadFails}
 use Rattle.p2c_main.specs.declared.outcome.Outcome.{Outcome}
 use Rattle.p2c_main.specs.declared.outcome.Outcome.TheVariants.{Done, Ended, Usage, TooLong, Unbuilt, BadText, Missing, ReadFault, WriteFault, OutOfMemory, Spent, Stuck}
 
@@ -60,12 +60,13 @@ pub record Counts (task : Option Task) (lacked lacked' failed failed' taken take
   pub write_fault : outcome ≡ WriteFault → Rose put put'
   pub none_missing : outcome ≢ Missing → outcome ≢ ReadFault → lacked' ≡ lacked
   pub no_read_fault : outcome ≢ Missing → outcome ≢ ReadFault → failed' ≡ failed
-  pub no_input_fault : outcome ≢ ReadFault → outcome ≢ WriteFault → taken' ≡ taken
+  pub no_input_fault : outcome ≢ ReadFault → taken' ≡ taken
   pub no_write_fault : outcome ≢ WriteFault → put' ≡ put
 
--- where a run could not read, it tells what failed
-pub record RunFault (task : Option Task) (failed taken kept : Type 0) (told : Option Named) (input old new : Option (List ℕ)) (outcome : Outcome) : Type 0 where
-  pub why : (steps : ℕ) (name : List ℕ) → task ≡ Some (Running steps name) → outcome ≡ ReadFault → ReadFails failed taken kept told name steps input old new
+-- what a run tells of its input: what failed where it could not read, and how much was taken
+pub record RunInput (task : Option Task) (failed taken kept same : Type 0) (told : Option Named) (input input' old new : Option (List ℕ)) (outcome : Outcome) : Type 0 where
+  pub fault : (steps : ℕ) (name : List ℕ) → task ≡ Some (Running steps name) → outcome ≡ ReadFault → ReadFails failed taken kept told name steps input input' old new
+  pub few : (steps : ℕ) (name : List ℕ) → task ≡ Some (Running steps name) → MayTake same told name steps input input'
 
 -- the answers that come before anything is done
 abbrev pub IsEarly : Outcome → Type 0

@@ -4,7 +4,7 @@ use Rattle.c_tree.specs.declared.program.CProgram.{CProgram}
 use Rattle.c_grammar.specs.Text.{CText}
 use Rattle.c_meaning.specs.Runs.{CAnswer, Going, End, CRun}
 use Rattle.c_meaning.specs.Runs as run
-use Rattle.c_stepper.specs.Machines.{CutShort, Ran, told}
+use Rattle.c_stepper.specs.Machines.{CutShort, Ran, TakesFew, told}
 use Rattle.c_reader.specs.declared.fault.CTextFault.{CTextFault}
 use Rattle.c_reader.specs.declared.fault.CTextFault.TheVariants as fault
 use Rattle.c_stepper.specs.declared.machine.Ended as e
@@ -35,10 +35,16 @@ pub record ExecutesPart (source : List ℕ) (steps : ℕ) (input old new : Optio
   pub ran : (left : List ℕ) → input ≡ Some left → (some : ℕ) × (some ≤ steps) × Gains old new (told (CRun program left some))
 
 -- the source is a text, and where the input is told its program came to a byte that the input failed to give
-pub record InputFails (source : List ℕ) (steps : ℕ) (input old new : Option (List ℕ)) : Type 0 where
+pub record InputFails (source : List ℕ) (steps : ℕ) (input input' old new : Option (List ℕ)) : Type 0 where
   pub program : CProgram
   pub text : CText source program
-  pub ran : (left : List ℕ) → input ≡ Some left → Ran program left steps old new ended.InputFault
+  pub ran : (left : List ℕ) → input ≡ Some left → Ran program left input' steps old new ended.InputFault
+
+-- the source is a text, and where the input is told few bytes were taken of it that no `getchar` of its program asked for
+pub record TakesOnly (source : List ℕ) (steps : ℕ) (input input' : Option (List ℕ)) : Type 0 where
+  pub program : CProgram
+  pub text : CText source program
+  pub few : (left : List ℕ) → input ≡ Some left → TakesFew program left input' steps
 
 -- what was written gained a proper prefix of the output of the source's program
 pub record CutsOff (source : List ℕ) (steps : ℕ) (input old new : Option (List ℕ)) : Type 0 where
@@ -55,8 +61,12 @@ abbrev pub MayExecutePart : Option Named → (name : List ℕ) → (steps : ℕ)
 MayExecutePart told name steps input old new = (new ≡ old) ⊎ OfFile told name (λ source. ExecutesPart source steps input old new)
 
 -- a fault of the files came before the run, and nothing was done; or a fault of the input ended the run
-abbrev pub ReadFails : (failed taken kept : Type 0) → Option Named → (name : List ℕ) → (steps : ℕ) → (input old new : Option (List ℕ)) → Type 0
-ReadFails failed taken kept told name steps input old new = (failed × kept) ⊎ (taken × OfFile told name (λ source. InputFails source steps input old new))
+abbrev pub ReadFails : (failed taken kept : Type 0) → Option Named → (name : List ℕ) → (steps : ℕ) → (input input' old new : Option (List ℕ)) → Type 0
+ReadFails failed taken kept told name steps input input' old new = (failed × kept) ⊎ (taken × OfFile told name (λ source. InputFails source steps input input' old new))
+
+-- nothing was taken of the input, or few bytes that the program of the file did not ask for
+abbrev pub MayTake : (kept : Type 0) → Option Named → (name : List ℕ) → (steps : ℕ) → (input input' : Option (List ℕ)) → Type 0
+MayTake kept told name steps input input' = kept ⊎ OfFile told name (λ source. TakesOnly source steps input input')
 
 -- ---- the top call
 

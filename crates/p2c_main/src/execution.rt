@@ -4,7 +4,7 @@ ghost use Rattle.std.specs.Prelude.{◌≡◌, ◌≢◌, ◌≤◌, ◌⊎◌, 
 ghost use Rattle.p2c_outside.specs.Counts.{Rose};
 ghost use Rattle.p2c_outside.specs.Told.{Named, WhereTold};
 ghost use Rattle.p2c_main.specs.Answers.{IsEarly, RunAnswer};
-ghost use Rattle.p2c_main.specs.Executed.{InputFails, ReadFails, outcome_of_run, outcome_with};
+ghost use Rattle.p2c_main.specs.Executed.{InputFails, MayTake, ReadFails, TakesOnly, outcome_of_run, outcome_with};
 
 use crate::outcome::Outcome;
 use crate::reading::{read_whole, refused};
@@ -34,15 +34,15 @@ pub fn execute<F: Files, I: Source, O: Sink>(
     ensures read_fault { result ≡ Outcome.ReadFault →
         ReadFails (Rose (F.faults files.old) (F.faults files.new)) (Rose (I.faults input.old) (I.faults input.new))
         ((input.new ≡ input.old) × (out.new ≡ out.old))
-        (F.told files.old) name.now steps (I.left input.old) (O.written out.old) (O.written out.new) }
+        (F.told files.old) name.now steps (I.left input.old) (I.left input.new) (O.written out.old) (O.written out.new) }
+    ensures ahead { MayTake (input.new ≡ input.old) (F.told files.old) name.now steps (I.left input.old) (I.left input.new) }
     ensures write_fault { result ≡ Outcome.WriteFault → Rose (O.faults out.old) (O.faults out.new) }
 
     ensures none_missing { result ≢ Outcome.Missing → result ≢ Outcome.ReadFault →
         F.missing files.new ≡ F.missing files.old }
     ensures no_read_fault { result ≢ Outcome.Missing → result ≢ Outcome.ReadFault →
         F.faults files.new ≡ F.faults files.old }
-    ensures no_input_fault { result ≢ Outcome.ReadFault → result ≢ Outcome.WriteFault →
-        I.faults input.new ≡ I.faults input.old }
+    ensures no_input_fault { result ≢ Outcome.ReadFault → I.faults input.new ≡ I.faults input.old }
     ensures no_write_fault { result ≢ Outcome.WriteFault → O.faults out.new ≡ O.faults out.old }
     ensures early { IsEarly result → (input.new ≡ input.old) × (out.new ≡ out.old) }
     ensures same { F.told files.new ≡ F.told files.old }
@@ -71,11 +71,11 @@ fn executed<I: Source, O: Sink>(
         RunAnswer told name steps (I.left input.old) (O.written out.old) (O.written out.new) result }
     ensures there { result ≢ Outcome.Missing }
     ensures input_failed { result ≡ Outcome.ReadFault →
-        InputFails bytes.now steps (I.left input.old) (O.written out.old) (O.written out.new) }
+        InputFails bytes.now steps (I.left input.old) (I.left input.new) (O.written out.old) (O.written out.new) }
+    ensures ahead { (input.new ≡ input.old) ⊎ TakesOnly bytes.now steps (I.left input.old) (I.left input.new) }
     ensures read_fault { result ≡ Outcome.ReadFault → Rose (I.faults input.old) (I.faults input.new) }
     ensures write_fault { result ≡ Outcome.WriteFault → Rose (O.faults out.old) (O.faults out.new) }
-    ensures no_input_fault { result ≢ Outcome.ReadFault → result ≢ Outcome.WriteFault →
-        I.faults input.new ≡ I.faults input.old }
+    ensures no_input_fault { result ≢ Outcome.ReadFault → I.faults input.new ≡ I.faults input.old }
     ensures no_write_fault { result ≢ Outcome.WriteFault → O.faults out.new ≡ O.faults out.old }
     ensures early { IsEarly result → (input.new ≡ input.old) × (out.new ≡ out.old) }
 {

@@ -2,8 +2,8 @@
 
 ghost use Rattle.std.specs.Prelude.{◌≡◌, ◌≢◌, ◌⊎◌, ℕ, None, Some, IfErr, Option, List};
 ghost use Rattle.p2c_outside.specs.Counts.{Rose};
-ghost use Rattle.p2c_main.specs.Answers.{Answer, Counts, Reports, RunFault, Stays};
-ghost use Rattle.p2c_main.specs.Executed.{AsksForText, CutsOff, EndsWith, IsOfRun, MayExecutePart, NotRun, OfFile, ReadFails};
+ghost use Rattle.p2c_main.specs.Answers.{Answer, Counts, Reports, RunInput, Stays};
+ghost use Rattle.p2c_main.specs.Executed.{AsksForText, CutsOff, EndsWith, IsOfRun, MayExecutePart, MayTake, NotRun, OfFile, ReadFails};
 ghost use Rattle.p2c_main.specs.Reading.{Lacks};
 ghost use Rattle.p2c_main.specs.Words.{Finds, IsRunning, Running, Task, Translating, name_asked, seen, task_asked};
 ghost use Rattle.p2c_main.specs.Translated.{AsksForAccepted, Translates, TranslatesPart, Refuses};
@@ -58,9 +58,12 @@ pub fn p2c<F: Files, I: Source, O: Sink, E: Sink>(
     ensures run_fault { (steps : ℕ) (name : List ℕ) → task_asked words.now ≡ Some (Running steps name) →
         result ≡ 243 → ReadFails (Rose (F.faults files.old) (F.faults files.new)) (Rose (I.faults input.old) (I.faults input.new))
         ((input.new ≡ input.old) × (out.new ≡ out.old))
-        (F.told files.old) name steps (I.left input.old) (O.written out.old) (O.written out.new) }
+        (F.told files.old) name steps (I.left input.old) (I.left input.new) (O.written out.old) (O.written out.new) }
     ensures run_part { (steps : ℕ) (name : List ℕ) → task_asked words.now ≡ Some (Running steps name) →
         result ≡ 245 → MayExecutePart (F.told files.old) name steps (I.left input.old) (O.written out.old) (O.written out.new) }
+
+    ensures ahead { (steps : ℕ) (name : List ℕ) → task_asked words.now ≡ Some (Running steps name) →
+        MayTake (input.new ≡ input.old) (F.told files.old) name steps (I.left input.old) (I.left input.new) }
 
     // where no fault rose, a text is run, or memory was wanting
     ensures run_complete { AsksForText (F.told files.old) words.now →
@@ -70,7 +73,7 @@ pub fn p2c<F: Files, I: Source, O: Sink, E: Sink>(
     // no fault is swallowed
     ensures none_missing { result ≢ 242 → result ≢ 243 → F.missing files.new ≡ F.missing files.old }
     ensures no_read_fault { result ≢ 242 → result ≢ 243 → F.faults files.new ≡ F.faults files.old }
-    ensures no_input_fault { result ≢ 243 → result ≢ 244 → I.faults input.new ≡ I.faults input.old }
+    ensures no_input_fault { result ≢ 243 → I.faults input.new ≡ I.faults input.old }
     ensures no_write_fault { result ≢ 244 → O.faults out.new ≡ O.faults out.old }
 
     // what stays as it was
@@ -105,10 +108,10 @@ fn attempt<F: Files, I: Source, O: Sink>(
         (I.faults input.old) (I.faults input.new) (O.faults out.old) (O.faults out.new) result }
     ensures stays { (task : Option Task) → Finds asked.now task →
         Stays task input.old input.new out.old out.new result }
-    ensures run_fault { (task : Option Task) → Finds asked.now task →
-        RunFault task (Rose (F.faults files.old) (F.faults files.new)) (Rose (I.faults input.old) (I.faults input.new))
-        ((input.new ≡ input.old) × (out.new ≡ out.old))
-        (F.told files.old) (I.left input.old) (O.written out.old) (O.written out.new) result }
+    ensures of_input { (task : Option Task) → Finds asked.now task →
+        RunInput task (Rose (F.faults files.old) (F.faults files.new)) (Rose (I.faults input.old) (I.faults input.new))
+        ((input.new ≡ input.old) × (out.new ≡ out.old)) (input.new ≡ input.old)
+        (F.told files.old) (I.left input.old) (I.left input.new) (O.written out.old) (O.written out.new) result }
     ensures wanting { IfErr asked.now (λ error. result ≡ Outcome.OutOfMemory) }
     ensures unread { result ≡ Outcome.Usage → files.new ≡ files.old }
     ensures same { F.told files.new ≡ F.told files.old }
@@ -132,9 +135,9 @@ fn perform<F: Files, I: Source, O: Sink>(
     ensures counts { Counts (Some (seen task.now)) (F.missing files.old) (F.missing files.new) (F.faults files.old) (F.faults files.new)
         (I.faults input.old) (I.faults input.new) (O.faults out.old) (O.faults out.new) result }
     ensures stays { Stays (Some (seen task.now)) input.old input.new out.old out.new result }
-    ensures run_fault { RunFault (Some (seen task.now)) (Rose (F.faults files.old) (F.faults files.new)) (Rose (I.faults input.old) (I.faults input.new))
-        ((input.new ≡ input.old) × (out.new ≡ out.old))
-        (F.told files.old) (I.left input.old) (O.written out.old) (O.written out.new) result }
+    ensures of_input { RunInput (Some (seen task.now)) (Rose (F.faults files.old) (F.faults files.new)) (Rose (I.faults input.old) (I.faults input.new))
+        ((input.new ≡ input.old) × (out.new ≡ out.old)) (input.new ≡ input.old)
+        (F.told files.old) (I.left input.old) (I.left input.new) (O.written out.old) (O.written out.new) result }
     ensures same { F.told files.new ≡ F.told files.old }
 {
     match task {

@@ -1,7 +1,7 @@
 use Rattle.std.proofs.Common.{ap, sym, subst, ◌∙◌, Err, ◌≡◌, refl, inr}
 use Rattle.p2c_outside.specs.Told.{WhereTold}
 use Rattle.p2c_main.specs.Answers.{RunAnswer}
-use Rattle.p2c_main.proofs.Executions.{refused_answer, refused_fails}
+use Rattle.p2c_main.proofs.Executions.{of_file, refused_answer, refused_fails}
 use Rattle.p2c_main.proofs.execution.execute.Goals as goal
 
 pub returns-in-Err-clause-answer : goal.returns-in-Err-clause-answer
@@ -20,7 +20,7 @@ returns-clause-answer g c =
 pub returns-in-Err-clause-read_fault : goal.returns-in-Err-clause-read_fault
 returns-in-Err-clause-read_fault g c = λ e.
     let old = g.O.Sink.written c.args.out.now in
-    refused_fails (g.F.Files.told c.args.files.now) c.args.name.now c.args.steps (g.I.Source.left c.args.input.now) old old c.in-Err.refusal
+    refused_fails (g.F.Files.told c.args.files.now) c.args.name.now c.args.steps (g.I.Source.left c.args.input.now) (g.I.Source.left c.args.input.now) old old c.in-Err.refusal
     (λ f. c.read_whole.ensures.failed (c.in-Err.is ∙ ap Err f)) (refl, refl) (sym c.refused.ensures ∙ e)
 
 pub returns-clause-read_fault : goal.returns-clause-read_fault
@@ -34,3 +34,8 @@ returns-clause-read_fault g c = λ e.
         c.executed.ensures.input_failed e,
       ),
     )
+
+pub returns-clause-ahead : goal.returns-clause-ahead
+returns-clause-ahead g c =
+    let told = g.F.Files.told c.args.files.now in
+    of_file told c.args.name.now c.deref.result.now _ (subst (λ l. WhereTold told c.args.name.now (λ b. l ≡ b)) (sym c.deref.ensures.value) c.in-Ok.ensures.whole) c.executed.ensures.ahead

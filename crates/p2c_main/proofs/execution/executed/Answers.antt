@@ -2,7 +2,7 @@ use Rattle.std.proofs.Common.{ap, sym, subst, ◌∙◌}
 use Rattle.p2c_main.specs.Answers.{IsEarly, RunAnswer}
 use Rattle.p2c_main.specs.Executed.{outcome_of_run}
 use Rattle.p2c_main.specs.declared.outcome.Outcome.{Outcome}
-use Rattle.p2c_main.proofs.Executions.{DeviceFaults, device_faults, early_kept, input_failed, kept_map, kept_written, never_missing, run_answer}
+use Rattle.p2c_main.proofs.Executions.{device_faults, early_kept, input_failed, kept_input, kept_map, kept_written, never_missing, run_answer, taken_only}
 use Rattle.p2c_main.proofs.execution.executed.Goals as goal
 
 pub returns-clause-answer : goal.returns-clause-answer
@@ -10,7 +10,7 @@ returns-clause-answer g c = λ told name whole.
     let r = c.run_text-answer in
     let old = g.O.Sink.written c.args.out.now in
     subst (λ o. RunAnswer told name c.args.steps (g.I.Source.left c.args.input.now) old (g.O.Sink.written r.new.out) o) (sym c.finished.ensures)
-    (run_answer told name c.args.bytes.now c.args.steps (g.I.Source.left c.args.input.now) old (g.O.Sink.written r.new.out) r.result whole r.ensures.ran r.ensures.refused
+    (run_answer told name c.args.bytes.now c.args.steps (g.I.Source.left c.args.input.now) (g.I.Source.left r.new.input) old (g.O.Sink.written r.new.out) r.result whole r.ensures.ran r.ensures.refused
     (kept_written c.args.input.now r.new.input c.args.out.now r.new.out g.O.Sink.written r.result r.ensures.untouched))
 
 pub returns-clause-there : goal.returns-clause-there
@@ -27,9 +27,9 @@ returns-clause-write_fault g c = λ e.
     (device_faults _ _ _ _ r.result r.ensures.faults (kept_map c.args.input.now r.new.input c.args.out.now r.new.out g.I.Source.faults g.O.Sink.faults r.result r.ensures.untouched)).output (sym c.finished.ensures ∙ e)
 
 pub returns-clause-no_input_fault : goal.returns-clause-no_input_fault
-returns-clause-no_input_fault g c = λ x y.
+returns-clause-no_input_fault g c = λ x.
     let r = c.run_text-answer in
-    (device_faults _ _ _ _ r.result r.ensures.faults (kept_map c.args.input.now r.new.input c.args.out.now r.new.out g.I.Source.faults g.O.Sink.faults r.result r.ensures.untouched)).no_input (λ e. x (c.finished.ensures ∙ e)) (λ e. y (c.finished.ensures ∙ e))
+    (device_faults _ _ _ _ r.result r.ensures.faults (kept_map c.args.input.now r.new.input c.args.out.now r.new.out g.I.Source.faults g.O.Sink.faults r.result r.ensures.untouched)).no_input (λ e. x (c.finished.ensures ∙ e))
 
 pub returns-clause-no_write_fault : goal.returns-clause-no_write_fault
 returns-clause-no_write_fault g c = λ x.
@@ -44,4 +44,10 @@ returns-clause-early g c = λ e.
 pub returns-clause-input_failed : goal.returns-clause-input_failed
 returns-clause-input_failed g c = λ e.
     let r = c.run_text-answer in
-    input_failed c.args.bytes.now c.args.steps (g.I.Source.left c.args.input.now) (g.O.Sink.written c.args.out.now) (g.O.Sink.written r.new.out) r.result r.ensures.ran (sym c.finished.ensures ∙ e)
+    input_failed c.args.bytes.now c.args.steps (g.I.Source.left c.args.input.now) (g.I.Source.left r.new.input) (g.O.Sink.written c.args.out.now) (g.O.Sink.written r.new.out) r.result r.ensures.ran (sym c.finished.ensures ∙ e)
+
+pub returns-clause-ahead : goal.returns-clause-ahead
+returns-clause-ahead g c =
+    let r = c.run_text-answer in
+    taken_only c.args.bytes.now c.args.steps (g.I.Source.left c.args.input.now) (g.I.Source.left r.new.input) (g.O.Sink.written c.args.out.now) (g.O.Sink.written r.new.out) r.result r.ensures.ran
+    (kept_input c.args.input.now r.new.input c.args.out.now r.new.out r.result r.ensures.untouched)

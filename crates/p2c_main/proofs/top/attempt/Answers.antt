@@ -1,9 +1,9 @@
-use Rattle.std.proofs.Common.{ap, sym, subst, ◌∙◌, ◌≡◌, inr, option_map}
+use Rattle.std.proofs.Common.{ap, sym, subst, ◌∙◌, ◌≡◌, inr, option_map, refl}
 use Rattle.p2c_outside.specs.Counts.{Rose}
-use Rattle.p2c_main.specs.Answers.{Answer, Counts, RunFault, Stays}
+use Rattle.p2c_main.specs.Answers.{Answer, Counts, RunInput, Stays}
 use Rattle.p2c_main.specs.Words.{Finds, seen}
 use Rattle.p2c_main.specs.declared.outcome.Outcome.TheVariants.{Usage, OutOfMemory}
-use Rattle.p2c_main.proofs.Clauses.{memory_answer, still_counts, still_stays, no_run_fault}
+use Rattle.p2c_main.proofs.Clauses.{memory_answer, still_counts, still_stays, no_run_input}
 use Rattle.p2c_main.proofs.top.attempt.Goals as goal
 
 pub returns-in-Ok-Some-clause-answers : goal.returns-in-Ok-Some-clause-answers
@@ -43,15 +43,15 @@ returns-in-Err-clause-counts g c = λ task found. still_counts task _ _ _ _ OutO
 pub returns-in-Err-clause-stays : goal.returns-in-Err-clause-stays
 returns-in-Err-clause-stays g c = λ task found. still_stays task _ _ OutOfMemory
 
-pub returns-in-Ok-Some-clause-run_fault : goal.returns-in-Ok-Some-clause-run_fault
-returns-in-Ok-Some-clause-run_fault g c = λ task found.
-    subst (λ t. RunFault t (Rose (g.F.Files.faults c.args.files.now) (g.F.Files.faults c.perform.new.files)) (Rose (g.I.Source.faults c.args.input.now) (g.I.Source.faults c.perform.new.input))
-    ((c.perform.new.input ≡ c.args.input.now) × (c.perform.new.out ≡ c.args.out.now))
-    (g.F.Files.told c.args.files.now) (g.I.Source.left c.args.input.now) (g.O.Sink.written c.args.out.now) (g.O.Sink.written c.perform.new.out) c.perform.result)
-    (sym (ap (option_map seen) (rw c.in-Ok-Some.is at c.in-Ok-Some.field-0-is)) ∙ subst (λ a. Finds a task) c.in-Ok-Some.is found) c.perform.ensures.run_fault
+pub returns-in-Ok-Some-clause-of_input : goal.returns-in-Ok-Some-clause-of_input
+returns-in-Ok-Some-clause-of_input g c = λ task found.
+    subst (λ t. RunInput t (Rose (g.F.Files.faults c.args.files.now) (g.F.Files.faults c.perform.new.files)) (Rose (g.I.Source.faults c.args.input.now) (g.I.Source.faults c.perform.new.input))
+    ((c.perform.new.input ≡ c.args.input.now) × (c.perform.new.out ≡ c.args.out.now)) (c.perform.new.input ≡ c.args.input.now)
+    (g.F.Files.told c.args.files.now) (g.I.Source.left c.args.input.now) (g.I.Source.left c.perform.new.input) (g.O.Sink.written c.args.out.now) (g.O.Sink.written c.perform.new.out) c.perform.result)
+    (sym (ap (option_map seen) (rw c.in-Ok-Some.is at c.in-Ok-Some.field-0-is)) ∙ subst (λ a. Finds a task) c.in-Ok-Some.is found) c.perform.ensures.of_input
 
-pub returns-in-Ok-None-clause-run_fault : goal.returns-in-Ok-None-clause-run_fault
-returns-in-Ok-None-clause-run_fault g c = λ task found. no_run_fault _ task _ _ _ Usage (inr (λ e. absurd cc))
+pub returns-in-Ok-None-clause-of_input : goal.returns-in-Ok-None-clause-of_input
+returns-in-Ok-None-clause-of_input g c = λ task found. no_run_input _ task _ _ _ _ Usage (inr (λ e. absurd cc)) refl
 
-pub returns-in-Err-clause-run_fault : goal.returns-in-Err-clause-run_fault
-returns-in-Err-clause-run_fault g c = λ task found. no_run_fault _ task _ _ _ OutOfMemory (inr (λ e. absurd cc))
+pub returns-in-Err-clause-of_input : goal.returns-in-Err-clause-of_input
+returns-in-Err-clause-of_input g c = λ task found. no_run_input _ task _ _ _ _ OutOfMemory (inr (λ e. absurd cc)) refl

@@ -37,7 +37,10 @@ pub returns-clause-run_part : goal.returns-clause-run_part
 returns-clause-run_part g c = run_part_of (c.attempt-outcome.ensures.answers (task_asked c.args.words.now) c.asked_task-asked.ensures) c.status.ensures
 
 pub returns-clause-run_fault : goal.returns-clause-run_fault
-returns-clause-run_fault g c = run_fault_of (c.attempt-outcome.ensures.answers (task_asked c.args.words.now) c.asked_task-asked.ensures) c.status.ensures (c.attempt-outcome.ensures.run_fault (task_asked c.args.words.now) c.asked_task-asked.ensures)
+returns-clause-run_fault g c = run_fault_of (c.attempt-outcome.ensures.answers (task_asked c.args.words.now) c.asked_task-asked.ensures) c.status.ensures (c.attempt-outcome.ensures.of_input (task_asked c.args.words.now) c.asked_task-asked.ensures)
+
+pub returns-clause-ahead : goal.returns-clause-ahead
+returns-clause-ahead g c = (c.attempt-outcome.ensures.of_input (task_asked c.args.words.now) c.asked_task-asked.ensures).few
 
 pub returns-clause-missing : goal.returns-clause-missing
 returns-clause-missing g c = missing_of (c.attempt-outcome.ensures.answers (task_asked c.args.words.now) c.asked_task-asked.ensures) c.status.ensures (c.attempt-outcome.ensures.counts (task_asked c.args.words.now) c.asked_task-asked.ensures)

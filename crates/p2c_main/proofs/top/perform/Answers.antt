@@ -1,5 +1,5 @@
 use Rattle.std.proofs.Common.{refl, inl}
-use Rattle.p2c_main.proofs.Clauses.{translation_answer, translation_stays, run_read_fault, run_fault, no_run_fault}
+use Rattle.p2c_main.proofs.Clauses.{translation_answer, translation_stays, run_read_fault, run_input, no_run_input}
 use Rattle.p2c_main.proofs.top.perform.Goals as goal
 
 pub returns-in-Translating-clause-answers : goal.returns-in-Translating-clause-answers
@@ -18,7 +18,7 @@ returns-in-Translating-clause-counts g c =
       write_fault = t.write_fault;
       none_missing = t.none_missing;
       no_read_fault = t.no_read_fault;
-      no_input_fault = λ x y. refl;
+      no_input_fault = λ x. refl;
       no_write_fault = t.no_write_fault;
     }
 
@@ -50,8 +50,8 @@ returns-in-Running-clause-stays g c =
       same_out = λ x. absurd (x tt);
     })
 
-pub returns-in-Running-clause-run_fault : goal.returns-in-Running-clause-run_fault
-returns-in-Running-clause-run_fault g c = rw c.in-Running.is (run_fault _ _ _ _ _ _ _ c.execute.ensures.read_fault)
+pub returns-in-Running-clause-of_input : goal.returns-in-Running-clause-of_input
+returns-in-Running-clause-of_input g c = rw c.in-Running.is (run_input _ _ _ _ _ _ _ _ c.execute.ensures.read_fault c.execute.ensures.ahead)
 
-pub returns-in-Translating-clause-run_fault : goal.returns-in-Translating-clause-run_fault
-returns-in-Translating-clause-run_fault g c = rw c.in-Translating.is (no_run_fault _ _ _ _ _ _ (inl (λ x. x)))
+pub returns-in-Translating-clause-of_input : goal.returns-in-Translating-clause-of_input
+returns-in-Translating-clause-of_input g c = rw c.in-Translating.is (no_run_input _ _ _ _ _ _ _ (inl (λ x. x)) refl)
