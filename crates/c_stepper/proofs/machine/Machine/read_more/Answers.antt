@@ -1,5 +1,4 @@
-use Rattle.std.proofs.Common.{◌≡◌, ◌≤◌, ◌<◌, ◌++◌, ◌∙◌, [], refl, sym, ap, subst, Some, Ok, Err, inl, inr, List, ℕ, Bool, true, false, Result, length, arith}
-use Rattle.c_meaning.specs.States.{State}
+use Rattle.std.proofs.Common.{◌≡◌, ◌≤◌, ◌++◌, ◌∙◌, [], sym, subst, Some, inr, List, ℕ, Bool, true, false, Result, length}
 use Rattle.c_meaning.specs.Steps.{CStep}
 use Rattle.c_evaluation.specs.declared.halt.Halt.{Halt}
 use Rattle.held_bytes.specs.Held.{bytes_in}
