@@ -14,7 +14,7 @@ use Rattle.held_bytes.specs.Written.{GainsPart}
 use Rattle.held_bytes.proofs.ToldLemmas.{Gains-refl, Gains-append, GainsPart-second}
 use Rattle.held_bytes.specs.Held.{bytes_in}
 use Rattle.c_stepper.specs.Runners.{AsksForByte}
-use Rattle.c_stepper.specs.Machines.{stood, IsFor, Begins, Goes, Loses, Steps, AreFew, Takes, output_at, Reaches, told, CutShort, IsAfter, MeetsNoEnd, WantsInput, TakesFew, Ran, TakeFaults, PutFaults, RunFaults, ended_by}
+use Rattle.c_stepper.specs.Machines.{stood, Begins, Goes, Steps, Takes, output_at, Reaches, told, CutShort, IsAfter, MeetsNoEnd, WantsInput, TakesFew, Ran, TakeFaults, PutFaults, RunFaults, ended_by}
 use Rattle.c_stepper.specs.declared.machine.Machine.{Machine}
 use Rattle.c_stepper.specs.declared.machine.Stepped.{Stepped}
 use Rattle.c_stepper.specs.declared.machine.Stepped.TheVariants as s

@@ -4,10 +4,10 @@ use Rattle.c_tree.specs.Tree as t
 use Rattle.c_tree.specs.Tree.{Statement, Place}
 use Rattle.c_tree.specs.declared.program.CProgram.{CProgram}
 use Rattle.c_meaning.specs.declared.StuckKind.{StuckKind}
-use Rattle.c_meaning.specs.Answer.{Answer, Got, Bad, ◌>>=◌}
+use Rattle.c_meaning.specs.Answer.{Got, Bad, ◌>>=◌}
 use Rattle.c_meaning.specs.Evaluate.{View, Site, place}
 use Rattle.c_meaning.specs.States.{State}
-use Rattle.c_meaning.specs.Steps.{Halted, do_statement, view_of, CStep}
+use Rattle.c_meaning.specs.Steps.{Halted, view_of, CStep}
 use Rattle.c_evaluation.specs.declared.halt.Halt.{Halt}
 use Rattle.c_evaluation.specs.declared.halt.Halt.TheVariants.{Stuck, Memory}
 use Rattle.c_evaluation.specs.Stores.{Finds, byte_stored}

@@ -1,6 +1,5 @@
 use Rattle.std.proofs.Common.{sym, subst, List, ℕ, Option}
-use Rattle.c_stepper.specs.Machines.{Ran, TakesFew}
-use Rattle.c_stepper.specs.declared.machine.Ended as e
+use Rattle.c_stepper.specs.Machines.{TakesFew}
 use Rattle.c_stepper.proofs.Running.{none_ran, none_taken}
 use Rattle.c_stepper.proofs.machine.run.Goals as goal
 

@@ -1,7 +1,6 @@
-use Rattle.std.proofs.Common.{◌≡◌, ◌≢◌, ◌+◌, ◌≤◌, ◌∙◌, refl, sym, ap, subst, arith, List, ℕ, Option, Bool, true, false}
+use Rattle.std.proofs.Common.{◌≡◌, ◌≢◌, ◌+◌, ◌≤◌, ◌∙◌, refl, sym, subst, arith, List, ℕ, Option, Bool, true, false}
 use Rattle.p2c_outside.specs.Counts.{Rose}
 use Rattle.c_stepper.specs.Machines.{Ran, RunFaults, ended_by}
-use Rattle.c_stepper.specs.declared.machine.Stepped.{Stepped}
 use Rattle.c_stepper.specs.declared.machine.Stepped.TheVariants as s
 use Rattle.c_stepper.specs.declared.machine.Ended as e
 use Rattle.c_stepper.proofs.Running.{Along, along_at_start, along, ends_run, takes_few, last_put, last_few, faults_of}

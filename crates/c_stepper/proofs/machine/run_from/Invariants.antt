@@ -1,4 +1,4 @@
-use Rattle.std.proofs.Common.{◌≡◌, ◌+◌, ◌≤◌, ℕ, List, Some, None, true}
+use Rattle.std.proofs.Common.{◌≡◌, ◌+◌, ℕ, List, Some, None, true}
 use Rattle.p2c_outside.specs.Told.{IsEmpty}
 use Rattle.c_stepper.specs.Machines.{IsFor}
 use Rattle.c_stepper.proofs.Running.{Along}

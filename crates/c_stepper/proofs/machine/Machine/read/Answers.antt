@@ -11,7 +11,7 @@ returns-else-is_dry-clause-takes g c =
     let same = c.read_held.ensures.end in
     takes_none p old c.read_held.new.self (g.I.Source.left c.args.input.now) (g.O.Sink.written c.args.out.now) (g.O.Sink.written c.read_held.new.out) c.read_held.result
     (λ rest output calls over count.
-        c.read_held.ensures.step rest output calls (λ e. met_end old.input.over (rest ≡ []) (λ going. ready (record { empty = e; going = going })) (λ h. over (same ∙ h))) count)
+    c.read_held.ensures.step rest output calls (λ e. met_end old.input.over (rest ≡ []) (λ going. ready (record { empty = e; going = going })) (λ h. over (same ∙ h))) count)
     (λ h. same ∙ h)
     (c.requires.is_for.ahead c.requires.going)
     (λ _ before rest output calls asks e. ready (record { empty = e; going = sym same ∙ before }))

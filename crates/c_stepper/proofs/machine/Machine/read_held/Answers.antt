@@ -1,4 +1,4 @@
-use Rattle.std.proofs.Common.{◌≡◌, ◌+◌, ◌++◌, ◌∙◌, ap, subst, Ok, Some}
+use Rattle.std.proofs.Common.{◌≡◌, ◌+◌, ◌++◌, ◌∙◌, subst, Ok, Some}
 use Rattle.c_meaning.specs.Steps.{CStep, after_byte}
 use Rattle.held_bytes.specs.Held.{bytes_in, first_of}
 use Rattle.c_stepper.specs.declared.machine.Machine.{Machine}

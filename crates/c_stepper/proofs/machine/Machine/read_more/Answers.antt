@@ -1,5 +1,4 @@
-use Rattle.std.proofs.Common.{◌≡◌, ◌≤◌, ◌<◌, ◌++◌, ◌∙◌, [], refl, sym, ap, subst, Some, Ok, Err, inl, inr, List, ℕ, Bool, true, false, Result, length, arith}
-use Rattle.c_meaning.specs.States.{State}
+use Rattle.std.proofs.Common.{◌≡◌, ◌≤◌, ◌++◌, ◌∙◌, [], sym, subst, Some, inr, List, ℕ, Bool, true, false, Result, length}
 use Rattle.c_meaning.specs.Steps.{CStep}
 use Rattle.c_evaluation.specs.declared.halt.Halt.{Halt}
 use Rattle.held_bytes.specs.Held.{bytes_in}
@@ -15,9 +14,9 @@ returns-in-Err-clause-takes g c =
     let old = c.args.self.now in
     takes_none p old c.halt.new.self (g.I.Source.left c.args.input.now) (g.O.Sink.written c.args.out.now) (g.O.Sink.written c.halt.new.out) c.halt.result
     (λ rest output calls over count.
-        let input = bytes_in old.input ++ rest in
-        let vain = subst (λ (r : Result (Unit {0}) Halt). Seeks p (state_of p old.runner input output calls) r) c.in-Err.is (c.seek.ensures input output calls) in
-        c.halt.ensures.step p old.runner (Some rest) input output calls (CStep p (stood p old rest output calls)) (sought_in_vain p old.runner input output calls c.in-Err.halt vain))
+    let input = bytes_in old.input ++ rest in
+    let vain = subst (λ (r : Result (Unit {0}) Halt). Seeks p (state_of p old.runner input output calls) r) c.in-Err.is (c.seek.ensures input output calls) in
+    c.halt.ensures.step p old.runner (Some rest) input output calls (CStep p (stood p old rest output calls)) (sought_in_vain p old.runner input output calls c.in-Err.halt vain))
     (λ h. absurd (let k : ◌≡◌ {A = Bool} true false = sym h ∙ c.requires.dry.going in cc))
     (c.requires.is_for.ahead c.requires.going)
     (λ going. absurd (c.halt.ensures.not_going going))
@@ -34,7 +33,7 @@ returns-clause-takes g c =
     let dry = c.requires.dry in
     let same = c.read_held.ensures.end in
     let asks : (rest output calls : List ℕ) → AsksForByte p (stood p old (bytes_in filled ++ rest) output calls) =
-        λ rest output calls. c.in_default.ensures (bytes_in old.input ++ (bytes_in filled ++ rest)) output calls in
+    λ rest output calls. c.in_default.ensures (bytes_in old.input ++ (bytes_in filled ++ rest)) output calls in
     record {
       taken = bytes_in filled;
       loses = c.in-Ok-fill.ensures.taken;

@@ -31,12 +31,12 @@ returns-else-reads-clause-takes g c = λ going.
     let other : reads_here p settled.frame ≡ false = sym c.reads.ensures ∙ c.if-reads.false in
     takes_none p old c.act.new.self (g.I.Source.left c.args.input.now) (g.O.Sink.written c.args.out.now) (g.O.Sink.written c.act.new.out) c.act.result
     (λ rest output calls over count.
-        subst (λ (st : State). Steps p old.output.bytes.items old.calls c.act.new.self (Some rest) (g.O.Sink.written c.args.out.now) (g.O.Sink.written c.act.new.out) output calls c.act.result (CStep p st))
-        (c.settle.ensures.same (bytes_in old.input ++ rest) output calls) (c.act.ensures.step rest output calls count))
+    subst (λ (st : State). Steps p old.output.bytes.items old.calls c.act.new.self (Some rest) (g.O.Sink.written c.args.out.now) (g.O.Sink.written c.act.new.out) output calls c.act.result (CStep p st))
+    (c.settle.ensures.same (bytes_in old.input ++ rest) output calls) (c.act.ensures.step rest output calls count))
     (λ h. ap (λ i. i.over) c.act.ensures.input ∙ h)
     (c.requires.is_for.ahead going)
     (λ _ before rest output calls asks none.
-        not_asked p settled (bytes_in old.input ++ rest) output calls other c.settle.ensures.settled (subst (AsksForByte p) (sym (c.settle.ensures.same (bytes_in old.input ++ rest) output calls)) asks))
+    not_asked p settled (bytes_in old.input ++ rest) output calls other c.settle.ensures.settled (subst (AsksForByte p) (sym (c.settle.ensures.same (bytes_in old.input ++ rest) output calls)) asks))
     c.act.ensures.no_input
 
 pub returns-else-reads-clause-step : goal.returns-else-reads-clause-step
