@@ -211,6 +211,7 @@ fn a_text_of_one_byte_over_the_limit_is_too_long(rt: HostRuntime) -> Result<(), 
 
 /// A run of a C text: what is asked for, over which input, in pieces of which size, and which call
 /// of the files, the input and the output fails. Calls count from 1, so 0 is no call.
+#[derive(Drop)]
 struct Scene<'a> {
     steps: &'a str,
     body: &'a str,
@@ -221,9 +222,8 @@ struct Scene<'a> {
     failing_put: u64,
 }
 
-fn run_scene(alloc: Global, scene: &Scene<'_>) -> Result<Answer, AllocError>
-    requires { 1 ≤ scene.now.piece }
-{
+fn run_scene(alloc: Global, scene: &Scene<'_>) -> Result<Answer, AllocError> {
+    let piece = scene.piece.max(1);
     let words = words_of(alloc, &["run", "--steps", scene.steps, "a.pas"])?;
     let text = format!(in alloc; "{HEAD}{}", scene.body)?;
     let source = Vec::from_slice(alloc, text.as_bytes())?;
@@ -231,13 +231,13 @@ fn run_scene(alloc: Global, scene: &Scene<'_>) -> Result<Answer, AllocError>
     let mut input = MemorySource {
         bytes: Vec::from_slice(alloc, scene.input.as_bytes())?,
         at: 0,
-        most: scene.piece,
+        most: piece,
         calls: 0,
         fail: vec![in alloc; scene.failing_take]?,
         faults: 0,
     };
     let fail = vec![in alloc; scene.failing_put]?;
-    let mut out = MemorySink::new(alloc, 4096, scene.piece, fail)?;
+    let mut out = MemorySink::new(alloc, 4096, piece, fail)?;
     let mut err = MemorySink::new(alloc, 4096, 7, Vec::new(alloc))?;
     let status = p2c(alloc, &words, &mut files, &mut input, &mut out, &mut err);
     Ok(Answer {
