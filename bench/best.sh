@@ -13,3 +13,10 @@ best() {
   done
   echo "$least"
 }
+
+# `built CRATE WORD..` builds the program of a crate by a run with these words, where it is not there yet.
+built() {
+  local crate=$1
+  shift
+  [ -x "$top/crates/$crate/out/$crate" ] || (cd "$top/crates/$crate" && rt run -- "$@" > /dev/null)
+}

@@ -6,7 +6,7 @@ set -eu
 top=$(cd "$(dirname "$0")/.." && pwd)
 . "$top/bench/best.sh"
 lexer=$top/crates/lexer_bench/out/lexer_bench
-[ -x "$lexer" ] || (cd "$top/crates/lexer_bench" && rt run -- data/p.pas > /dev/null)
+built lexer_bench data/p.pas
 folder=$(mktemp -d)
 trap 'rm -r "$folder"' EXIT
 

@@ -6,7 +6,7 @@ set -eu
 top=$(cd "$(dirname "$0")/.." && pwd)
 . "$top/bench/best.sh"
 reader=$top/crates/reader_bench/out/reader_bench
-[ -x "$reader" ] || (cd "$top/crates/reader_bench" && rt run -- data/t.c > /dev/null)
+built reader_bench data/t.c
 folder=$(mktemp -d)
 trap 'rm -r "$folder"' EXIT
 

@@ -5,7 +5,7 @@ set -eu
 top=$(cd "$(dirname "$0")/.." && pwd)
 . "$top/bench/best.sh"
 samples=$top/crates/samples_bench/out/samples_bench
-[ -x "$samples" ] || (cd "$top/crates/samples_bench" && rt run -- 1 1 > /dev/null)
+built samples_bench 1 1
 
 small=$(best 7 "$samples" 1 1000)
 large=$(best 7 "$samples" 1 10000)

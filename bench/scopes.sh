@@ -7,7 +7,7 @@ set -eu
 top=$(cd "$(dirname "$0")/.." && pwd)
 . "$top/bench/best.sh"
 scopes=$top/crates/scopes_bench/out/scopes_bench
-[ -x "$scopes" ] || (cd "$top/crates/scopes_bench" && rt run -- 3 2 > /dev/null)
+built scopes_bench 3 2
 
 few=$(best 7 "$scopes" 1000 0)
 many=$(best 7 "$scopes" 10000 0)
