@@ -1,3 +1,4 @@
 pub mod Code
+pub mod Falls
 pub mod Tree
 pub mod View
