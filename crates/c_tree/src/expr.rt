@@ -111,7 +111,7 @@ impl CPlace {
         })
     }
 
-    #[tactic(auto, using(crate::specs::expressions::Falls::selected_more))]
+    #[tactic(auto, using(crate::specs::expressions::View::selected_more))]
     fn selected(place: CPlace, selector: CSelector) -> Result<CPlace, AllocError>
         ensures { IfOk result (λ made. made ≡ select place selector) }
     {

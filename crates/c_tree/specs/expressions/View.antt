@@ -1,5 +1,5 @@
 -- What an expression, level by level, and a place are seen as.
-use Rattle.std.specs.Prelude.{List, [], ◌∷◌}
+use Rattle.std.specs.Prelude.{◌≡◌, List, [], ◌∷◌, ◌++◌, refl}
 use Rattle.c_tree.specs.expressions.Tree as tree
 use Rattle.c_tree.specs.expressions.Tree.{Expr, Place}
 use Rattle.c_tree.specs.declared.expr.CExprNode.{CExprNode}
@@ -33,3 +33,7 @@ select p (selector.Index a) = tree.Index p a
 abbrev pub selected : Place → List CSelector → Place
 selected p [] = p
 selected p (s ∷ rest) = selected (select p s) rest
+
+pub selected_more : (p : Place) (all : List CSelector) (s : CSelector) → selected p (all ++ s ∷ []) ≡ select (selected p all) s
+selected_more p [] s = refl
+selected_more p (first ∷ rest) s = selected_more (select p first) rest s
