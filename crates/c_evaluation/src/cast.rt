@@ -45,11 +45,7 @@ fn member_at(members: &[CMember], at: usize) -> Option<&CMember>
 
 /// The element of an array, or the member of a struct.
 #[tactic(auto, using(crate::proofs::Parts::element_there, crate::proofs::Parts::element_past), unfolding(c_meaning::specs::Types::child_type, c_meaning::specs::Types::child_type_in))]
-fn child_type<'a>(
-    scope: &Scope<'a>,
-    of: PlaceType<'a>,
-    at: usize,
-) -> Option<PlaceType<'a>>
+fn child_type<'a>(scope: &Scope<'a>, of: PlaceType<'a>, at: usize) -> Option<PlaceType<'a>>
     ensures { option_map place_type_of result ≡ t.child_type scope.now.program.now.declarations (place_type_of of.entry) at }
 {
     match of {
@@ -72,11 +68,7 @@ fn child_type<'a>(
 
 /// The type of the part at a path of a place.
 #[tactic(auto, unfolding(c_meaning::specs::Types::part_type))]
-fn part_type<'a>(
-    scope: &Scope<'a>,
-    path: &[usize],
-    of: PlaceType<'a>,
-) -> Option<PlaceType<'a>>
+fn part_type<'a>(scope: &Scope<'a>, path: &[usize], of: PlaceType<'a>) -> Option<PlaceType<'a>>
     ensures { option_map place_type_of result ≡ t.part_type scope.now.program.now.declarations path.now (Some (place_type_of of.entry)) }
 {
     let mut here = of;

@@ -234,12 +234,7 @@ fn truth_of<'a>(x: &Value) -> Result<Value<'a>, StuckKind>
 
 /// Whether two values are equal, or differ, as 1 or 0.
 #[tactic(auto, using(crate::proofs::Binary::same_none, crate::proofs::Binary::same_some, crate::proofs::Binary::other_none, crate::proofs::Binary::other_some))]
-fn equality<'a>(
-    scope: &Scope,
-    negated: bool,
-    x: &Value,
-    y: &Value,
-) -> Result<Value<'a>, StuckKind>
+fn equality<'a>(scope: &Scope, negated: bool, x: &Value, y: &Value) -> Result<Value<'a>, StuckKind>
     ensures { said value_of result ≡ m.binary scope.now.program.now.declarations (if negated then CBinary.NotEqual else CBinary.Equal) (value_of x.now) (value_of y.now) }
 {
     match equal(scope, x, y) {
@@ -250,12 +245,7 @@ fn equality<'a>(
 
 /// An operator on two values.
 #[tactic(auto, unfolding(c_meaning::specs::Values::binary, c_meaning::specs::Values::ordered))]
-pub fn binary<'a>(
-    scope: &Scope,
-    op: CBinary,
-    x: &Value,
-    y: &Value,
-) -> Result<Value<'a>, StuckKind>
+pub fn binary<'a>(scope: &Scope, op: CBinary, x: &Value, y: &Value) -> Result<Value<'a>, StuckKind>
     ensures { said value_of result ≡ m.binary scope.now.program.now.declarations op (value_of x.now) (value_of y.now) }
 {
     match op {

@@ -72,11 +72,7 @@ fn member_named<'a>(members: &'a [CMember], name: &Name) -> Option<Step<'a>>
 
 /// The member with a name, of a struct.
 #[tactic(auto, using(crate::proofs::Places::no_struct, crate::proofs::Places::no_member, crate::proofs::Places::member_found))]
-fn struct_member<'a>(
-    scope: &Scope<'a>,
-    of: &Name,
-    name: &Name,
-) -> Result<Step<'a>, StuckKind>
+fn struct_member<'a>(scope: &Scope<'a>, of: &Name, name: &Name) -> Result<Step<'a>, StuckKind>
     ensures { said step_of result ≡ m.member scope.now.program.now.declarations name.now (t.Plain (Struct of.now)) }
 {
     match members_of(scope, of) {
@@ -90,11 +86,7 @@ fn struct_member<'a>(
 
 /// The member with a name.
 #[tactic(auto, unfolding(c_meaning::specs::Evaluate::member))]
-pub fn member<'a>(
-    scope: &Scope<'a>,
-    name: &Name,
-    of: PlaceType<'a>,
-) -> Result<Step<'a>, StuckKind>
+pub fn member<'a>(scope: &Scope<'a>, name: &Name, of: PlaceType<'a>) -> Result<Step<'a>, StuckKind>
     ensures { said step_of result ≡ m.member scope.now.program.now.declarations name.now (place_type_of of.entry) }
 {
     match of {
