@@ -3,6 +3,7 @@ pub mod Leaves
 pub mod Exact
 pub mod Binary
 pub mod Names
+pub mod Lookups
 pub mod Places
 pub mod Reading
 pub mod Parts

@@ -51,7 +51,7 @@ fn operate<'a>(op: CUnary, x: &Value) -> Result<Value<'a>, Halt>
 fn step_to_member<'a>(scope: &Scope<'a>, site: Site<'a>, name: &Name) -> Result<Site<'a>, Halt>
     ensures { Tells site_of result (onto_member (view_at scope.now) name.now (site_of site.entry)) }
 {
-    match member(scope.program.declarations.as_slice(), name, site.of) {
+    match member(scope, name, site.of) {
         Ok(step) => Ok(onward(site, step)?),
         Err(kind) => Err(Halt::Stuck(kind)),
     }
@@ -76,7 +76,7 @@ fn step_to_element<'a>(site: Site<'a>, x: &Value) -> Result<Site<'a>, Halt>
 fn combine<'a>(scope: &Scope<'a>, op: CBinary, x: &Value, y: &Value) -> Result<Value<'a>, Halt>
     ensures { Tells worth result (w.binary (view_at scope.now).declared op (worth x.now) (worth y.now)) }
 {
-    match binary(scope.program.declarations.as_slice(), op, x, y) {
+    match binary(scope, op, x, y) {
         Ok(value) => Ok(value),
         Err(kind) => Err(Halt::Stuck(kind)),
     }

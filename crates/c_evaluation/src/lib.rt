@@ -7,12 +7,11 @@
 mod cast;
 pub mod evaluate;
 pub mod halt;
+pub mod lookup;
 mod operate;
 pub mod place;
 pub mod read;
 pub mod scope;
 pub mod store;
-#[cfg(test)]
-mod tests;
 pub mod types;
 pub mod value;

@@ -87,11 +87,7 @@ fn byte_taken(value: &Value) -> Result<CellTree, StuckKind>
 fn alike_taken(scope: &Scope, of: Object, value: Value) -> Result<CellTree, Halt>
     ensures { Tells (λ t. t) result (alike_given scope.now.program.now.declarations (object_of of.entry) (worth value.entry)) }
 {
-    if !alike(
-        scope.program.declarations.as_slice(),
-        ValueType::Of(of),
-        type_of(&value),
-    ) {
+    if !alike(scope, ValueType::Of(of), type_of(&value)) {
         return Err(Halt::Stuck(StuckKind::Mismatch));
     }
     tree_of(scope, value)

@@ -16,6 +16,7 @@ use c_cells::fresh::copy_type;
 use c_cells::memory::{Block, Memory};
 use c_evaluation::evaluate::{place_of, value_of};
 use c_evaluation::halt::Halt;
+use c_evaluation::lookup::function_place;
 use c_evaluation::place::Site;
 use c_evaluation::read::{name_value, root_number};
 use c_evaluation::scope::Scope;
@@ -25,7 +26,7 @@ use c_evaluation::value::{Content, Value, held, type_of};
 use c_meaning::StuckKind;
 use c_tree::Name;
 use c_tree::expr::{CExpr, CPlace};
-use c_tree::program::{CFunction, CVariable};
+use c_tree::program::CVariable;
 use c_tree::statement::CCallee;
 use c_tree::types::CType;
 use std::alloc::{AllocError, Global};
@@ -43,16 +44,11 @@ pub struct Entry {
 // ---- the callee
 
 /// The place of the first function with a name.
-fn function_at(functions: &[CFunction], name: &[u8]) -> Option<usize>
-    ensures value { result ≡ function_from 0 name.now functions.now }
-    ensures within { IfSome result (λ i. i < length functions.now) }
+fn function_at(scope: &Scope, name: &Name) -> Option<usize>
+    ensures value { result ≡ function_from 0 name.now scope.now.program.now.functions }
+    ensures within { IfSome result (λ i. i < length scope.now.program.now.functions) }
 {
-    for (i, function) in functions.iter().enumerate() {
-        if name == function.name.as_slice() {
-            return Some(i);
-        }
-    }
-    None
+    function_place(scope, name)
 }
 
 /// The value that is called.
@@ -119,12 +115,12 @@ fn is_named(of: Object) -> bool
 
 /// The function with the name that a value points to.
 #[tactic(auto, using(crate::proofs::Calling::no_function, crate::proofs::Calling::some_function))]
-fn function_called(functions: &[CFunction], value: &Value) -> Result<Option<usize>, Halt>
-    ensures value { Tells (λ o. o) result (function_called functions.now (worth value.now)) }
-    ensures within { IfOk result (λ o. IfSome o (λ n. n < length functions.now)) }
+fn function_called(scope: &Scope, value: &Value) -> Result<Option<usize>, Halt>
+    ensures value { Tells (λ o. o) result (function_called scope.now.program.now.functions (worth value.now)) }
+    ensures within { IfOk result (λ o. IfSome o (λ n. n < length scope.now.program.now.functions)) }
 {
     match called_name(value) {
-        Ok(name) => Ok(function_at(functions, name.as_slice())),
+        Ok(name) => Ok(function_at(scope, name)),
         Err(kind) => Err(Halt::Stuck(kind)),
     }
 }
@@ -136,7 +132,7 @@ fn callee_function<'a>(scope: &Scope<'a>, who: &'a CCallee) -> Result<Option<usi
     ensures within { IfOk result (λ o. IfSome o (λ n. n < length scope.now.program.now.functions)) }
 {
     let value = callee_value(scope, who)?;
-    function_called(scope.program.functions.as_slice(), &value)
+    function_called(scope, &value)
 }
 
 // ---- the place for the answer
