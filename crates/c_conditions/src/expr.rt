@@ -61,7 +61,7 @@ impl<'a> Checker<'a> {
     }
 
     #[cycle(expr)]
-    #[tactic(auto, using(crate::proofs::Parts::selected_step, c_tree::specs::expressions::Sizes::selected_size))]
+    #[tactic(auto, using(crate::proofs::Parts::selected_step))]
     pub fn variable(&mut self, p: &'a CPlace) -> Result<(), ConditionFault>
         ensures { Gives result (seen self.new) (spec.place_step p.now (seen self.old)) }
     {

@@ -11,3 +11,5 @@ pub mod Casts
 pub mod Evaluations
 pub mod Taking
 pub mod Freeing
+pub mod Pointers
+pub mod Selected

@@ -1,5 +1,5 @@
 //! What places take of values, and where it goes.
-ghost use Rattle.std.specs.Prelude.{◌≡◌, [], length};
+ghost use Rattle.std.specs.Prelude.{◌≡◌, [], length, IfOk};
 ghost use Rattle.c_meaning.specs.Values as w;
 ghost use Rattle.c_meaning.specs.Evaluate as v;
 ghost use Rattle.c_meaning.specs.Steps as m;
@@ -29,6 +29,7 @@ use c_cells::tree::{CellTree, copy_tree};
 use c_meaning::StuckKind;
 use c_tree::expr::{CExpr, CPlace};
 use c_tree::types::CType;
+use std::alloc::AllocError;
 use tree_lists::Items;
 
 /// A part of a block that gets another tree.
@@ -182,20 +183,20 @@ pub fn malloced<'a>(scope: &Scope<'a>, place: &'a CPlace, of: &'a CType) -> Resu
     ensures { Stores scope.now.memory.now result (address_stored (view_at scope.now) scope.now.memory.now place.now of.now) }
 {
     let site = place_of(scope, place)?;
-    let value = new_pointer(scope, of);
+    let value = new_pointer(scope, of)?;
     put_value(scope, site, value)
 }
 
 /// A pointer to the block that is made next.
-fn new_pointer<'a>(scope: &Scope<'a>, of: &'a CType) -> Value<'a>
-    ensures { worth result ≡ w.Typed (Of (t.Pointer of.now)) (Leaf (Pointer (length scope.now.memory.now) [])) }
+fn new_pointer<'a>(scope: &Scope<'a>, of: &'a CType) -> Result<Value<'a>, AllocError>
+    ensures { IfOk result (λ value. worth value ≡ w.Typed (Of (t.Pointer of.now)) (Leaf (Pointer (length scope.now.memory.now) []))) }
 {
     let of = Object {
-        pointers: 1,
-        base: Base::Written(of),
+        pointers: of.stars.checked_add(1).ok_or(AllocError)?,
+        base: Base::written(&of.base),
     };
     let node = CellNode::Pointer(scope.memory.made(), Items::new(scope.alloc));
-    Value::Scalar(ValueType::Of(of), Cell { node })
+    Ok(Value::Scalar(ValueType::Of(of), Cell { node }))
 }
 
 /// The byte that `putchar(e);` writes.

@@ -1,9 +1,10 @@
 //! Types of places and of values.
 ghost use Rattle.std.specs.Prelude.{◌≡◌, ◌+◌, map, IfOk, IfErr};
 ghost use Rattle.c_tree.specs.Tree as t;
+ghost use Rattle.c_tree.specs.types.View.{base_of as written_base};
 ghost use Rattle.c_meaning.specs.Types as m;
 ghost use Rattle.c_meaning.specs.States.{variable_type};
-ghost use Rattle.c_evaluation.specs.Types.{object_of, layer_of, value_type_of, signature_of, target_of, is_byte};
+ghost use Rattle.c_evaluation.specs.Types.{base_of, object_of, layer_of, value_type_of, signature_of, target_of, is_byte};
 ghost use Rattle.std.specs.Option.{option_map};
 
 use crate::halt::Halt;
@@ -11,16 +12,17 @@ use crate::lookup::typedef_of;
 use crate::scope::Scope;
 use c_tree::Name;
 use c_tree::program::CVariable;
-use c_tree::types::{CType, CTypeNode};
+use c_tree::types::{CBaseType, CType};
 
-/// Where a type comes from.
+/// A type that is no pointer to another.
 #[derive(Clone, Copy)]
 pub enum Base<'a> {
     Int,
     Word,
+    Byte,
     VoidPointer,
     Struct(&'a Name),
-    Written(&'a CType),
+    Named(&'a Name),
 }
 
 /// A type: so many pointers around another.
@@ -64,6 +66,22 @@ pub enum ValueType<'a> {
     Routine(Signature<'a>),
 }
 
+impl<'a> Base<'a> {
+    /// The base that is written so.
+    pub fn written(base: &'a CBaseType) -> Base<'a>
+        ensures { base_of result ≡ written_base base.now }
+    {
+        match base {
+            CBaseType::Int => Base::Int,
+            CBaseType::Word => Base::Word,
+            CBaseType::Byte => Base::Byte,
+            CBaseType::VoidPointer => Base::VoidPointer,
+            CBaseType::Struct(name) => Base::Struct(name),
+            CBaseType::Named(name) => Base::Named(name),
+        }
+    }
+}
+
 impl<'a> Object<'a> {
     pub fn int() -> Object<'a>
         ensures { object_of result ≡ t.Int }
@@ -88,8 +106,8 @@ impl<'a> Object<'a> {
         ensures { object_of result ≡ of.now }
     {
         Object {
-            pointers: 0,
-            base: Base::Written(of),
+            pointers: of.stars,
+            base: Base::written(&of.base),
         }
     }
 
@@ -139,42 +157,35 @@ impl<'a> Object<'a> {
         match self.base {
             Base::Int => Layer::Int,
             Base::Word => Layer::Word,
+            Base::Byte => Layer::Byte,
             Base::VoidPointer => Layer::VoidPointer,
             Base::Struct(name) => Layer::Struct(name),
-            Base::Written(of) => written_layer(of),
+            Base::Named(name) => Layer::Named(name),
         }
     }
 }
 
-fn written_layer<'a>(of: &'a CType) -> Layer<'a>
-    ensures { layer_of result ≡ of.now }
+#[tactic(auto, unfolding(c_meaning::specs::Types::type_eq))]
+fn same_base(a: Base, b: Base) -> bool
+    ensures { result ≡ m.type_eq (base_of a.entry) (base_of b.entry) }
 {
-    match &of.node {
-        CTypeNode::Int => Layer::Int,
-        CTypeNode::Word => Layer::Word,
-        CTypeNode::Byte => Layer::Byte,
-        CTypeNode::VoidPointer => Layer::VoidPointer,
-        CTypeNode::Struct(name) => Layer::Struct(name),
-        CTypeNode::Named(name) => Layer::Named(name),
-        CTypeNode::Pointer(to) => Layer::Pointer(Object::written(to.get())),
+    match (a, b) {
+        (Base::Int, Base::Int) => true,
+        (Base::Word, Base::Word) => true,
+        (Base::Byte, Base::Byte) => true,
+        (Base::VoidPointer, Base::VoidPointer) => true,
+        (Base::Struct(m), Base::Struct(n)) => m.as_slice() == n.as_slice(),
+        (Base::Named(m), Base::Named(n)) => m.as_slice() == n.as_slice(),
+        _ => false,
     }
 }
 
 /// Whether two types are one.
-#[tactic(auto, unfolding(c_meaning::specs::Types::type_eq))]
+#[tactic(auto, using(crate::proofs::Pointers::same_pointers, crate::proofs::Pointers::other_pointers))]
 pub fn same_type(a: Object, b: Object) -> bool
     ensures { result ≡ m.type_eq (object_of a.entry) (object_of b.entry) }
 {
-    match (a.layer(), b.layer()) {
-        (Layer::Int, Layer::Int) => true,
-        (Layer::Word, Layer::Word) => true,
-        (Layer::Byte, Layer::Byte) => true,
-        (Layer::VoidPointer, Layer::VoidPointer) => true,
-        (Layer::Struct(m), Layer::Struct(n)) => m.as_slice() == n.as_slice(),
-        (Layer::Named(m), Layer::Named(n)) => m.as_slice() == n.as_slice(),
-        (Layer::Pointer(m), Layer::Pointer(n)) => same_type(m, n),
-        _ => false,
-    }
+    a.pointers == b.pointers && same_base(a.base, b.base)
 }
 
 /// Whether two results are one.

@@ -123,7 +123,6 @@ fn put_converted(out: &mut Vec<u8>, to: &CCast, a: &CExpr) -> Result<(), AllocEr
 }
 
 #[cycle(expr)]
-#[tactic(auto, using(c_tree::specs::expressions::Sizes::selected_size))]
 pub(crate) fn put_place(out: &mut Vec<u8>, p: &CPlace) -> Result<(), AllocError>
     ensures { OnOk result (out.new.items ≡ out.old.items ++ place_text p.now) }
 {

@@ -5,6 +5,7 @@ ghost use Rattle.c_meaning.specs.Evaluate as e;
 ghost use Rattle.c_meaning.specs.Steps as m;
 ghost use Rattle.c_evaluation.specs.Halts.{said, Tells};
 ghost use Rattle.c_evaluation.specs.Scopes.{view_at, site_of, HasRoom};
+ghost use Rattle.c_tree.specs.types.View.{base_of as written_base};
 ghost use Rattle.c_evaluation.specs.Types.{object_of, base_of, place_type_of};
 ghost use Rattle.c_evaluation.specs.Values.{value_of as worth, values_of, content_of, now_of};
 ghost use Rattle.c_stepper.specs.Runners.{target_of as meant};
@@ -28,7 +29,7 @@ use c_tree::Name;
 use c_tree::expr::{CExpr, CPlace};
 use c_tree::program::CVariable;
 use c_tree::statement::CCallee;
-use c_tree::types::CType;
+use c_tree::types::{CBaseType, CType};
 use std::alloc::{AllocError, Global};
 use tree_lists::Items;
 
@@ -137,15 +138,16 @@ fn callee_function<'a>(scope: &Scope<'a>, who: &'a CCallee) -> Result<Option<usi
 
 // ---- the place for the answer
 
-fn base_type(alloc: Global, base: Base) -> Result<CType, AllocError>
-    ensures { IfOk result (λ of. of ≡ base_of base.entry) }
+fn owned_base(alloc: Global, base: Base) -> Result<CBaseType, AllocError>
+    ensures { IfOk result (λ owned. written_base owned ≡ base_of base.entry) }
 {
     match base {
-        Base::Int => Ok(CType::int()),
-        Base::Word => Ok(CType::word()),
-        Base::VoidPointer => Ok(CType::void_pointer()),
-        Base::Struct(name) => Ok(CType::structure(copied(alloc, name)?)),
-        Base::Written(of) => copy_type(alloc, of),
+        Base::Int => Ok(CBaseType::Int),
+        Base::Word => Ok(CBaseType::Word),
+        Base::Byte => Ok(CBaseType::Byte),
+        Base::VoidPointer => Ok(CBaseType::VoidPointer),
+        Base::Struct(name) => Ok(CBaseType::Struct(copied(alloc, name)?)),
+        Base::Named(name) => Ok(CBaseType::Named(copied(alloc, name)?)),
     }
 }
 
@@ -153,11 +155,10 @@ fn base_type(alloc: Global, base: Base) -> Result<CType, AllocError>
 fn owned_type(alloc: Global, of: Object) -> Result<CType, AllocError>
     ensures { IfOk result (λ owned. owned ≡ object_of of.entry) }
 {
-    let mut made = base_type(alloc, of.base)?;
-    for i in 0..of.pointers {
-        made = CType::pointer(alloc, made)?;
-    }
-    Ok(made)
+    Ok(CType {
+        base: owned_base(alloc, of.base)?,
+        stars: of.pointers,
+    })
 }
 
 /// A place of a block, for an answer.
