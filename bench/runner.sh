@@ -6,7 +6,7 @@ set -eu
 top=$(cd "$(dirname "$0")/.." && pwd)
 . "$top/bench/best.sh"
 runner=$top/crates/runner_bench/out/runner_bench
-[ -x "$runner" ] || (cd "$top/crates/runner_bench" && rt run -- data/loop.c 10000 > /dev/null)
+built runner_bench data/loop.c 10000
 folder=$(mktemp -d)
 trap 'rm -r "$folder"' EXIT
 steps=1000000000000
@@ -51,13 +51,19 @@ while i < $turns do
 end
 LUA
 
+lua=$(command -v lua5.4 || true)
+if [ -z "$lua" ]; then echo "lua5.4 is absent, and its times are left out"; fi
 for name in loop calls; do
   "$runner" "$folder/$name.c" "$steps"
   gcc -std=c99 -O0 -w -o "$folder/$name" "$folder/$name.c"
   ours=$(best 3 "$runner" "$folder/$name.c" "$steps")
-  lua=$(best 3 lua5.4 "$folder/$name.lua")
   compiled=$(best 3 "$folder/$name")
-  echo "$name, $turns turns: $ours us; Lua $lua us, we take $((ours * 10 / lua)) tenths of it; gcc -O0 $compiled us"
+  # a turn of the loop is three steps, and one of the calls is three too
+  echo "$name, $turns turns: $ours us, $((ours * 1000 / (turns * 3))) ns a step; gcc -O0 $compiled us"
+  if [ -n "$lua" ]; then
+    peer=$(best 3 "$lua" "$folder/$name.lua")
+    echo "$name in Lua: $peer us; we take $((ours * 10 / peer)) tenths of it"
+  fi
 done
 for name in loop_one loop_many calls_many; do
   none=$(best 3 "$runner" "$folder/$name.c" 1)
