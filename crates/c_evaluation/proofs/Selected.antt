@@ -1,5 +1,5 @@
 -- What is selected of a place.
-use Rattle.std.proofs.Common.{◌≡◌, ◌≢◌, ◌<◌, List, [], ◌∷◌, Option, None, length, refl, ap, ◌∙◌, arith}
+use Rattle.std.proofs.Common.{◌≡◌, ◌≢◌, ◌<◌, ◌≤◌, List, [], ◌∷◌, Option, None, length, get_or, refl, sym, ap, ◌∙◌, arith}
 use Rattle.c_tree.specs.Tree as t
 use Rattle.c_tree.specs.expressions.View.{select, selected}
 use Rattle.c_tree.specs.declared.expr.CSelector.{CSelector}
@@ -7,6 +7,7 @@ use Rattle.c_tree.specs.declared.expr.CSelector.TheVariants.{Member, Index}
 use Rattle.c_meaning.specs.Answer.{Answer, Got, Bad, ◌>>=◌}
 use Rattle.c_meaning.specs.Evaluate.{View, Site, value, place}
 use Rattle.c_evaluation.specs.Evaluations.{onto_selector, onto_selectors, name_in}
+use Rattle.c_evaluation.proofs.Signatures.{after, after_first}
 
 -- ---- it is no name
 
@@ -47,3 +48,12 @@ module _ (v : View) where
   pub none_selected : (all : List CSelector) (site : Site) → length all < 1 → onto_selectors v all site ≡ Got site
   none_selected [] site few = refl
   none_selected (s ∷ rest) site few = absurd (omega arith)
+
+  pub next_selected : (s : CSelector) (rest : List CSelector) (site next : Site) → Got next ≡ onto_selector v s site → onto_selectors v rest next ≡ onto_selectors v (s ∷ rest) site
+  unfolding ◌>>=◌
+  next_selected s rest site next e = ap (λ a. a >>= onto_selectors v rest) e
+
+-- the first of some selectors, as a pattern gives it
+pub first_of : (all : List CSelector) (s : CSelector) → 1 ≤ length all → s ≡ get_or all 0 s → all ≡ s ∷ after all
+first_of [] s some h = absurd (omega arith)
+first_of (x ∷ rest) s some h = let same : s ≡ x = h in ap (λ y. y ∷ rest) (sym same) ∙ ap (λ l. s ∷ l) (sym (after_first x rest))

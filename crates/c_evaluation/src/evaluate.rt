@@ -228,11 +228,7 @@ fn selected_site<'a>(
 }
 
 #[cycle(evaluate)]
-fn step_to<'a>(
-    scope: &Scope<'a>,
-    site: Site<'a>,
-    selector: &'a CSelector,
-) -> Result<Site<'a>, Halt>
+fn step_to<'a>(scope: &Scope<'a>, site: Site<'a>, selector: &'a CSelector) -> Result<Site<'a>, Halt>
     requires { HasRoom scope.now }
     ensures { Tells site_of result (onto_selector (view_at scope.now) selector.now (site_of site.entry)) }
 {

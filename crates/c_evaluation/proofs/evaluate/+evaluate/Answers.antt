@@ -12,9 +12,10 @@ use Rattle.c_meaning.specs.Evaluate.{View, value, place}
 use Rattle.c_evaluation.specs.Halts.{Tells}
 use Rattle.c_evaluation.specs.Values.{value_of}
 use Rattle.c_evaluation.specs.Scopes.{view_at, site_of}
-use Rattle.c_evaluation.specs.Evaluations.{onto_element, onto_selectors, decision, name_in}
+use Rattle.c_evaluation.specs.Evaluations.{onto_element, onto_selector, onto_selectors, decision, name_in}
 use Rattle.c_evaluation.proofs.Evaluations.{exit, onward_with, after_first, joined_is, read_name, read_part}
-use Rattle.c_evaluation.proofs.Selected.{selected_place}
+use Rattle.c_evaluation.proofs.Selected.{selected_place, none_selected, next_selected, first_of}
+use Rattle.c_evaluation.proofs.Signatures.{after}
 use Rattle.c_evaluation.proofs.evaluate.+evaluate.Goals as goal
 
 pub address_of-returns-in_err-site : goal.address_of-returns-in_err-site
@@ -87,6 +88,39 @@ place_of-returns t c =
     let site = site_of c.in_ok-site.site in
     subst (Tells site_of r) (sym (selected_place view base all) ∙ ap (m.place view) c.place.view_is)
     (onward_with site_of r (m.place view base) site (onto_selectors view all) c.in_ok-site.ensures (subst (λ l. Tells site_of r (onto_selectors view l site)) c.as_slice.ensures c.selected_site.ensures))
+
+pub selected_site-step_to-requires : goal.selected_site-step_to-requires
+selected_site-step_to-requires t c =
+    let split = first_of c.loop-rest.rest.now c.first-item.result (omega arith) c.first-item.is in
+    (omega (arith, ap selectors_size split, c.loop-rest.invariant.smaller), c.requires)
+
+pub selected_site-returns-in_err-site : goal.selected_site-returns-in_err-site
+selected_site-returns-in_err-site t c =
+    let v : View = view_at c.args.scope.now in
+    let rest = c.loop-rest.rest.now in
+    let first = c.first-item.result in
+    let at = site_of c.loop-rest.site in
+    let r = c.from_residual.result in
+    let split = first_of rest first (omega arith) c.first-item.is in
+    subst (Tells site_of r) (ap (λ l. onto_selectors v l at) (sym split) ∙ c.loop-rest.invariant.same)
+    (exit site_of site_of c.in_err-site.field-0.0 r (onto_selector v first at) (onto_selectors v (after rest)) c.from_residual.ensures.1 c.in_err-site.ensures)
+
+pub selected_site-loop-rest-preserved : goal.selected_site-loop-rest-preserved
+selected_site-loop-rest-preserved t c =
+    let v : View = view_at c.args.scope.now in
+    let rest = c.loop-rest.rest.now in
+    let first = c.first-item.result in
+    let at = site_of c.loop-rest.site in
+    let split = first_of rest first (omega arith) c.first-item.is in
+    record {
+      same = next_selected v first (after rest) at (site_of c.in_ok-site.site) c.in_ok-site.ensures ∙ ap (λ l. onto_selectors v l at) (sym split) ∙ c.loop-rest.invariant.same;
+      smaller = omega (arith, ap selectors_size split, c.loop-rest.invariant.smaller);
+    }
+
+pub selected_site-returns : goal.selected_site-returns
+selected_site-returns t c =
+    let v : View = view_at c.args.scope.now in
+    sym (none_selected v c.loop-rest.rest.now (site_of c.loop-rest.site) (omega arith)) ∙ c.loop-rest.invariant.same
 
 pub read-returns-in-Some : goal.read-returns-in-Some
 read-returns-in-Some t c =
