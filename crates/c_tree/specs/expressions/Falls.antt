@@ -1,5 +1,5 @@
 -- Each part of a place is smaller than the place.
-use Rattle.std.specs.Prelude.{◌+◌, ◌≤◌, max, List, [], ◌∷◌}
+use Rattle.std.specs.Prelude.{◌≤◌, List, [], ◌∷◌}
 use Rattle.std.proofs.Common.{arith}
 use denote.Param.Weighed.{most}
 use Rattle.c_tree.specs.expressions.Tree.{place_size}

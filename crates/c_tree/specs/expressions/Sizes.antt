@@ -1,5 +1,5 @@
 -- How deep selectors are: no deeper than the place that they select.
-use Rattle.std.specs.Prelude.{◌≡◌, ℕ, ◌+◌, ◌≤◌, max, List, [], ◌∷◌}
+use Rattle.std.specs.Prelude.{ℕ, ◌+◌, ◌≤◌, max, List, [], ◌∷◌}
 use Rattle.std.proofs.Common.{arith}
 use Rattle.c_tree.specs.expressions.Tree.{Place, place_size, expr_size}
 use Rattle.c_tree.specs.expressions.View.{select, selected}

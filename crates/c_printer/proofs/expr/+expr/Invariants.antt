@@ -1,4 +1,4 @@
-use Rattle.std.proofs.Common.{◌≡◌, ◌+◌, ◌*◌, ◌≤◌, max, ◌++◌, length}
+use Rattle.std.proofs.Common.{◌≡◌, ◌+◌, ◌*◌, ◌≤◌, ◌++◌, length}
 use Rattle.c_tree.specs.Tree.{expr_size, place_size}
 use Rattle.c_tree.specs.expressions.View.{base_place}
 use Rattle.c_tree.specs.expressions.Sizes.{selector_size, selectors_size}
