@@ -11,3 +11,4 @@ pub mod Casts
 pub mod Evaluations
 pub mod Taking
 pub mod Freeing
+pub mod Found

@@ -95,7 +95,7 @@ fn variable_place<'a>(scope: &Scope<'a>, name: &'a Name) -> Result<Site<'a>, Hal
 }
 
 /// The name, where the place is one.
-fn single_name(place: &CPlace) -> Option<&Name>
+pub fn single_name(place: &CPlace) -> Option<&Name>
     ensures { option_copied result ≡ name_in place.now }
 {
     match &place.node {
