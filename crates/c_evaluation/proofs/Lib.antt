@@ -11,5 +11,6 @@ pub mod Casts
 pub mod Evaluations
 pub mod Taking
 pub mod Freeing
+pub mod Found
 pub mod Pointers
 pub mod Selected

@@ -97,7 +97,7 @@ fn variable_place<'a>(scope: &Scope<'a>, name: &'a Name) -> Result<Site<'a>, Hal
 
 /// The name, where the place is one.
 #[tactic(auto, using(crate::proofs::Selected::no_name))]
-fn single_name(place: &CPlace) -> Option<&Name>
+pub fn single_name(place: &CPlace) -> Option<&Name>
     ensures { option_copied result ≡ name_in place.now }
 {
     if !place.selectors.is_empty() {

@@ -8,6 +8,7 @@ mod cast;
 pub mod evaluate;
 pub mod halt;
 pub mod lookup;
+pub mod numbers;
 mod operate;
 pub mod place;
 pub mod read;
