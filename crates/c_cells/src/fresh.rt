@@ -7,23 +7,31 @@ use crate::cell::{Cell, CellNode, copied};
 use crate::memory::{Block, Memory};
 use crate::tree::CellTree;
 use c_tree::program::{CDeclaration, CMember, CVariable};
-use c_tree::types::{CType, CTypeNode};
+use c_tree::types::{CBaseType, CType};
 use std::alloc::{AllocError, Global};
 use tree_lists::Items;
+
+fn copy_base(alloc: Global, base: &CBaseType) -> Result<CBaseType, AllocError>
+    ensures { IfOk result (λ copy. copy ≡ base.now) }
+{
+    match base {
+        CBaseType::Int => Ok(CBaseType::Int),
+        CBaseType::Word => Ok(CBaseType::Word),
+        CBaseType::Byte => Ok(CBaseType::Byte),
+        CBaseType::VoidPointer => Ok(CBaseType::VoidPointer),
+        CBaseType::Struct(name) => Ok(CBaseType::Struct(copied(alloc, name)?)),
+        CBaseType::Named(name) => Ok(CBaseType::Named(copied(alloc, name)?)),
+    }
+}
 
 /// A type of its own that is the same.
 pub fn copy_type(alloc: Global, of: &CType) -> Result<CType, AllocError>
     ensures { IfOk result (λ copy. copy ≡ of.now) }
 {
-    match &of.node {
-        CTypeNode::Int => Ok(CType::int()),
-        CTypeNode::Word => Ok(CType::word()),
-        CTypeNode::Byte => Ok(CType::byte()),
-        CTypeNode::VoidPointer => Ok(CType::void_pointer()),
-        CTypeNode::Struct(name) => Ok(CType::structure(copied(alloc, name)?)),
-        CTypeNode::Named(name) => Ok(CType::named(copied(alloc, name)?)),
-        CTypeNode::Pointer(to) => CType::pointer(alloc, copy_type(alloc, to.get())?),
-    }
+    Ok(CType {
+        base: copy_base(alloc, &of.base)?,
+        stars: of.stars,
+    })
 }
 
 /// The block with which a variable, or what a `malloc` makes, begins.
@@ -84,14 +92,12 @@ pub fn fresh(
 ) -> Result<CellTree, AllocError>
     ensures { IfOk result (λ tree. tree ≡ fresh zeroed declared.now of.now) }
 {
-    match &of.node {
-        CTypeNode::Int => Ok(scalar(zeroed, CellNode::Int(0))),
-        CTypeNode::Word => Ok(scalar(zeroed, CellNode::Word(0))),
-        CTypeNode::Byte => Ok(scalar(zeroed, CellNode::Byte(0))),
-        CTypeNode::Struct(name) => fresh_struct(alloc, zeroed, declared, name.as_slice()),
-        CTypeNode::Named(_) => Ok(scalar(zeroed, CellNode::Null)),
-        CTypeNode::VoidPointer => Ok(scalar(zeroed, CellNode::Null)),
-        CTypeNode::Pointer(_) => Ok(scalar(zeroed, CellNode::Null)),
+    match (&of.base, of.stars) {
+        (CBaseType::Int, 0) => Ok(scalar(zeroed, CellNode::Int(0))),
+        (CBaseType::Word, 0) => Ok(scalar(zeroed, CellNode::Word(0))),
+        (CBaseType::Byte, 0) => Ok(scalar(zeroed, CellNode::Byte(0))),
+        (CBaseType::Struct(name), 0) => fresh_struct(alloc, zeroed, declared, name.as_slice()),
+        _ => Ok(scalar(zeroed, CellNode::Null)),
     }
 }
 

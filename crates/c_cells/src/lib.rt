@@ -5,8 +5,6 @@
 pub mod cell;
 pub mod fresh;
 pub mod memory;
-#[cfg(test)]
-mod tests;
 pub mod tree;
 
 use tree_lists::Items;

@@ -5,4 +5,5 @@ mod MeetsDeclaration
 mod MeetsExpr
 mod MeetsProgram
 mod MeetsStatement
+mod Parts
 mod Reach

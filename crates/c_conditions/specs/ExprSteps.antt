@@ -2,6 +2,8 @@
 use Rattle.c_tree.specs.Tree.{Expr, Read, Number, WordNumber, Null, Address, Unary, Binary, Cast, Place, Variable, Pointee, Member, Index}
 use Rattle.c_tree.specs.declared.operators.CCast.{CCast}
 use Rattle.c_tree.specs.declared.operators.CCast.TheVariants as cast
+use Rattle.c_tree.specs.declared.expr.CSelector.{CSelector}
+use Rattle.c_tree.specs.declared.expr.CSelector.TheVariants as selector
 use Rattle.c_conditions.specs.Steps.{Step, ◌>>◌, pass}
 use Rattle.c_conditions.specs.TypeSteps.{pointed_struct}
 
@@ -27,3 +29,7 @@ unfoldable mutual
   place_step (Pointee a) = pass 2 >> expr_step a >> pass 1
   place_step (Member p n) = place_step p >> pass 2
   place_step (Index p a) = place_step p >> pass 1 >> expr_step a >> pass 1
+
+abbrev pub selector_step : CSelector → Step
+selector_step (selector.Member n) = pass 2
+selector_step (selector.Index a) = pass 1 >> expr_step a >> pass 1

@@ -11,7 +11,7 @@ use crate::table::Table;
 use c_grammar::fault::CTextKind;
 use c_tree::Name;
 use c_tree::program::{CDeclaration, CMember, CStruct, CTypedef};
-use c_tree::types::{CType, CTypeNode};
+use c_tree::types::{CBaseType, CType};
 
 /// The greatest length of an array, and the greatest number of cells of a type.
 const MOST_CELLS: u64 = 16_777_216;
@@ -32,8 +32,8 @@ fn is_length(length: u64) -> bool
 fn type_cells<'a>(structs: &Table<'a>, of: &'a CType) -> u64
     ensures { result ≡ cell.type_cells structs.now of.now }
 {
-    match &of.node {
-        CTypeNode::Struct(name) => structs.get(name.as_slice()).unwrap_or(1),
+    match (&of.base, of.stars) {
+        (CBaseType::Struct(name), 0) => structs.get(name.as_slice()).unwrap_or(1),
         _ => 1,
     }
 }
@@ -90,8 +90,8 @@ impl<'a> Checker<'a> {
     fn typedef_type(&mut self, of: &'a CType) -> Result<(), ConditionFault>
         ensures { Gives result (seen self.new) (spec.typedef_type of.now (seen self.old)) }
     {
-        match &of.node {
-            CTypeNode::Struct(name) => self.pointed_struct(name.as_slice()),
+        match (&of.base, of.stars) {
+            (CBaseType::Struct(name), 0) => self.pointed_struct(name.as_slice()),
             _ => self.type_of(of),
         }
     }

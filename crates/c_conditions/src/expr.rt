@@ -2,11 +2,12 @@
 ghost use Rattle.std.specs.Prelude.{◌≡◌};
 ghost use Rattle.c_conditions.specs.World.{seen};
 ghost use Rattle.c_conditions.specs.ExprSteps as spec;
-ghost use Rattle.c_conditions.specs.Steps.{Gives};
+ghost use Rattle.c_conditions.specs.Steps.{Gives, each};
+ghost use Rattle.c_tree.specs.expressions.View.{base_place};
 
 use crate::checker::Checker;
 use crate::fault::ConditionFault;
-use c_tree::expr::{CExpr, CExprNode, CPlace, CPlaceNode};
+use c_tree::expr::{CBasePlace, CExpr, CExprNode, CPlace, CSelector};
 use c_tree::operators::CCast;
 
 impl<'a> Checker<'a> {
@@ -60,25 +61,51 @@ impl<'a> Checker<'a> {
     }
 
     #[cycle(expr)]
-    #[tactic(auto, unfolding(crate::specs::ExprSteps::place_step))]
+    #[tactic(auto, using(crate::proofs::Parts::selected_step))]
     pub fn variable(&mut self, p: &'a CPlace) -> Result<(), ConditionFault>
         ensures { Gives result (seen self.new) (spec.place_step p.now (seen self.old)) }
     {
-        match &p.node {
-            CPlaceNode::Variable(_) => self.pass(1),
-            CPlaceNode::Pointee(a) => {
+        self.base_place(&p.base)?;
+        self.selectors(p.selectors.as_slice())
+    }
+
+    #[cycle(expr)]
+    #[tactic(auto, unfolding(crate::specs::ExprSteps::place_step))]
+    fn base_place(&mut self, base: &'a CBasePlace) -> Result<(), ConditionFault>
+        ensures { Gives result (seen self.new) (spec.place_step (base_place base.now) (seen self.old)) }
+    {
+        match base {
+            CBasePlace::Variable(_) => self.pass(1),
+            CBasePlace::Pointee(a) => {
                 self.pass(2)?;
                 self.expr(a.get())?;
                 self.pass(1)
             }
-            CPlaceNode::Member(p, _) => {
-                self.variable(p.get())?;
-                self.pass(2)
-            }
-            CPlaceNode::Index(p, a) => {
-                self.variable(p.get())?;
+        }
+    }
+
+    #[cycle(expr)]
+    #[tactic(auto, unfolding(crate::specs::Steps::each))]
+    fn selectors(&mut self, list: &'a [CSelector]) -> Result<(), ConditionFault>
+        ensures { Gives result (seen self.new) (each spec.selector_step list.now (seen self.old)) }
+    {
+        let mut rest = list;
+        while let [first, after @ ..] = rest {
+            self.selector(first)?;
+            rest = after;
+        }
+        Ok(())
+    }
+
+    #[cycle(expr)]
+    fn selector(&mut self, selector: &'a CSelector) -> Result<(), ConditionFault>
+        ensures { Gives result (seen self.new) (spec.selector_step selector.now (seen self.old)) }
+    {
+        match selector {
+            CSelector::Member(_) => self.pass(2),
+            CSelector::Index(a) => {
                 self.pass(1)?;
-                self.expr(a.get())?;
+                self.expr(a)?;
                 self.pass(1)
             }
         }

@@ -20,10 +20,9 @@ fn type_of(alloc: Global, code: &str) -> Result<CType, AllocError> {
     match code.as_bytes() {
         b"i" => Ok(CType::int()),
         [b'=', named @ ..] => Ok(CType::named(Items::from_slice(alloc, named)?)),
-        [target @ .., b'*'] => CType::pointer(
-            alloc,
-            CType::structure(Items::from_slice(alloc, target)?),
-        ),
+        [target @ .., b'*'] => {
+            CType::pointer(CType::structure(Items::from_slice(alloc, target)?))
+        }
         other => Ok(CType::structure(Items::from_slice(alloc, other)?)),
     }
 }

@@ -3,6 +3,7 @@ pub mod Leaves
 pub mod Exact
 pub mod Binary
 pub mod Names
+pub mod Lookups
 pub mod Places
 pub mod Reading
 pub mod Parts
@@ -10,3 +11,6 @@ pub mod Casts
 pub mod Evaluations
 pub mod Taking
 pub mod Freeing
+pub mod Found
+pub mod Pointers
+pub mod Selected

@@ -1,9 +1,8 @@
 -- The block of a variable, by its place among a function's variables.
-use Rattle.std.proofs.Common.{◌≡◌, ℕ, suc, ◌+◌, ◌≤◌, List, [], ◌∷◌, ◌++◌, length, take, take_all, true, false, Option, Some, None, refl, sym, ap, ◌∙◌, arith}
+use Rattle.std.proofs.Common.{◌≡◌, ℕ, suc, ◌+◌, List, [], ◌∷◌, ◌++◌, length, take, true, false, Option, Some, None, refl, sym, ap, ◌∙◌, arith}
 use Rattle.std.specs.Prelude.{if◌then◌else◌}
 use Rattle.std.specs.Str.{bytes_eq}
 use Rattle.c_tree.specs.declared.program.CVariable.{CVariable}
-use Rattle.c_tree.specs.declared.program.CFunction.{CFunction}
 use Rattle.c_tree.specs.declared.program.CProgram.{CProgram}
 use Rattle.c_meaning.specs.Cells.{Name}
 use Rattle.c_meaning.specs.Answer.{or_else}
@@ -65,9 +64,6 @@ module _ (c : CProgram) (x : Name) (base : ℕ) (ps ls : List CVariable) where
   global h l =
       number ∙ ap (λ o. or_else (plus base (or_else o (plus (length ps) (global_from 0 x ls)))) (global_from 0 x c.globals)) h
       ∙ ap (λ o. or_else (plus base (plus (length ps) o)) (global_from 0 x c.globals)) l
-
-pub all_taken : (functions : List CFunction) (n : ℕ) → length functions ≤ n → functions ≡ take n functions
-all_taken functions n h = sym (take_all n functions h)
 
 module _ (c : CProgram) (reach : ℕ) (x : Name) where
   pub is_announced : (s : Signature) → announced x c.prototypes ≡ Some s → signature_of c reach x ≡ Some s

@@ -1,13 +1,15 @@
 -- Steps of evaluation.
-use Rattle.std.specs.Prelude.{ℕ, ℤ, pos, Bool, true, false, Option, Some, None}
+use Rattle.std.specs.Prelude.{ℕ, ℤ, pos, Bool, true, false, List, [], ◌∷◌, Option, Some, None}
 use Rattle.c_meaning.specs.Cells.{Name, Leaf, Int}
 use Rattle.c_tree.specs.Tree as t
 use Rattle.c_tree.specs.declared.operators.CBinary.{CBinary}
 use Rattle.c_tree.specs.declared.operators.CBinary.TheVariants as b
+use Rattle.c_tree.specs.declared.expr.CSelector.{CSelector}
+use Rattle.c_tree.specs.declared.expr.CSelector.TheVariants as selector
 use Rattle.c_meaning.specs.Types.{Of}
 use Rattle.c_meaning.specs.Answer.{Answer, Got, ◌>>=◌}
 use Rattle.c_meaning.specs.Values.{Value, Typed, int, as_int, is_zero}
-use Rattle.c_meaning.specs.Evaluate.{View, Site, member, element, onward}
+use Rattle.c_meaning.specs.Evaluate.{View, Site, member, element, onward, value}
 
 abbrev pub number_value : ℕ → Answer Value
 number_value n = Got (int (pos n))
@@ -17,6 +19,18 @@ onto_member v n site = member v.declared n site.of >>= (λ step. Got (onward sit
 
 abbrev pub onto_element : Site → Value → Answer Site
 onto_element site x = as_int x >>= (λ i. element i site.of >>= (λ step. Got (onward site step)))
+
+abbrev pub onto_index : View → t.Expr → Site → Answer Site
+onto_index v a site = value v a >>= onto_element site
+
+abbrev pub onto_selector : View → CSelector → Site → Answer Site
+onto_selector v (selector.Member n) = onto_member v n
+onto_selector v (selector.Index a) = onto_index v a
+
+-- onto what selectors, one after another, select
+abbrev pub onto_selectors : View → List CSelector → Site → Answer Site
+onto_selectors v [] site = Got site
+onto_selectors v (s ∷ rest) site = onto_selector v s site >>= onto_selectors v rest
 
 -- a number, where it matters so whether the first operand is 0
 abbrev pub deciding : (zero matters : Bool) → ℤ → Option Value

@@ -1,5 +1,6 @@
 pub mod Halts
 pub mod Types
+pub mod Declarations
 pub mod Values
 pub mod Operators
 pub mod Scopes

@@ -6,7 +6,7 @@ use Rattle.c_meaning.specs.Steps.{put_value, free_value}
 use Rattle.c_tree.specs.Tree.{ObjectType}
 use Rattle.c_tree.specs.declared.program.CDeclaration.{CDeclaration}
 use Rattle.c_meaning.specs.declared.StuckKind.TheVariants as k
-use Rattle.c_meaning.specs.Cells.{Tree, Leaf, Pointer, Blocks}
+use Rattle.c_meaning.specs.Cells.{Tree, Leaf, Pointer, Block, Blocks, block_at}
 use Rattle.c_meaning.specs.Answer.{Answer, Got, Bad, ◌>>=◌, when}
 use Rattle.c_meaning.specs.Types.{Of, alike}
 use Rattle.c_meaning.specs.Values.{Value, Typed, int, as_int, is_zero, byte_of}
@@ -33,6 +33,10 @@ abbrev pub Finds : Result (Unit {0}) Halt → Answer Site → Type 0
 Finds (Ok done) answer = (site : Site) × (answer ≡ Got site)
 Finds (Err (Stuck kind)) answer = answer ≡ Bad kind
 Finds (Err Memory) answer = Unit {0}
+
+-- the block with this number is there, and of `int64_t`
+abbrev pub IsIntBlock : Option ℕ → Blocks → ℕ → Type 0
+IsIntBlock number blocks n = (b : Block) × (number ≡ Some n) × (block_at blocks n ≡ Some b) × (b.of ≡ t.Int)
 
 -- ---- statements
 

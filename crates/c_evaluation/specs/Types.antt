@@ -1,7 +1,8 @@
 -- The types that the runner reckons with, as types of the meaning.
-use Rattle.std.specs.Prelude.{ℕ, zero, suc, map, Option, Some, None, Bool, true, false}
+use Rattle.std.specs.Prelude.{map, Option, Some, None, Bool, true, false}
 use Rattle.c_tree.specs.Tree as t
 use Rattle.c_tree.specs.Tree.{ObjectType}
+use Rattle.c_tree.specs.types.View.{pointers}
 use Rattle.c_tree.specs.declared.program.CTypedef.{CTypedef}
 use Rattle.c_meaning.specs.Types as m
 use Rattle.c_meaning.specs.States.{variable_type}
@@ -19,17 +20,13 @@ use Rattle.c_evaluation.specs.declared.types.ValueType.TheVariants as v
 abbrev pub base_of : Base → ObjectType
 base_of b.Int = t.Int
 base_of b.Word = t.Word
+base_of b.Byte = t.Byte
 base_of b.VoidPointer = t.VoidPointer
 base_of (b.Struct name) = t.Struct name.now
-base_of (b.Written of) = of.now
-
--- so many pointers around a type
-abbrev pub pointed : ℕ → ObjectType → ObjectType
-pointed zero of = of
-pointed (suc n) of = t.Pointer (pointed n of)
+base_of (b.Named name) = t.Named name.now
 
 abbrev pub object_of : Object → ObjectType
-object_of o = pointed o.pointers (base_of o.base)
+object_of o = pointers o.pointers (base_of o.base)
 
 abbrev pub layer_of : Layer → ObjectType
 layer_of l.Int = t.Int

@@ -12,7 +12,8 @@ ghost use Rattle.c_evaluation.specs.Casts.{is_number, cast_cell};
 ghost use Rattle.c_evaluation.specs.Halts.{said, Tells};
 
 use crate::halt::Halt;
-use crate::place::{member_type, members_of};
+use crate::lookup::members_of;
+use crate::place::member_type;
 use crate::read::block_of;
 use crate::scope::Scope;
 use crate::types::{Base, Layer, Object, PlaceType, ValueType, points_to_object, same_type};
@@ -23,7 +24,7 @@ use c_cells::memory::Block;
 use c_meaning::StuckKind;
 use c_tree::Name;
 use c_tree::operators::CCast;
-use c_tree::program::{CDeclaration, CMember};
+use c_tree::program::CMember;
 
 /// The type of the member at a place.
 #[tactic(auto, using(crate::proofs::Parts::type_at_some, crate::proofs::Parts::type_at_none))]
@@ -44,12 +45,8 @@ fn member_at(members: &[CMember], at: usize) -> Option<&CMember>
 
 /// The element of an array, or the member of a struct.
 #[tactic(auto, using(crate::proofs::Parts::element_there, crate::proofs::Parts::element_past), unfolding(c_meaning::specs::Types::child_type, c_meaning::specs::Types::child_type_in))]
-fn child_type<'a>(
-    declared: &'a [CDeclaration],
-    of: PlaceType<'a>,
-    at: usize,
-) -> Option<PlaceType<'a>>
-    ensures { option_map place_type_of result ≡ t.child_type declared.now (place_type_of of.entry) at }
+fn child_type<'a>(scope: &Scope<'a>, of: PlaceType<'a>, at: usize) -> Option<PlaceType<'a>>
+    ensures { option_map place_type_of result ≡ t.child_type scope.now.program.now.declarations (place_type_of of.entry) at }
 {
     match of {
         PlaceType::Array(length, of) => {
@@ -60,7 +57,7 @@ fn child_type<'a>(
             }
         }
         PlaceType::Plain(of) => match of.layer() {
-            Layer::Struct(name) => match members_of(declared, name) {
+            Layer::Struct(name) => match members_of(scope, name) {
                 Some(members) => type_at(members, at),
                 None => None,
             },
@@ -71,17 +68,13 @@ fn child_type<'a>(
 
 /// The type of the part at a path of a place.
 #[tactic(auto, unfolding(c_meaning::specs::Types::part_type))]
-fn part_type<'a>(
-    declared: &'a [CDeclaration],
-    path: &[usize],
-    of: PlaceType<'a>,
-) -> Option<PlaceType<'a>>
-    ensures { option_map place_type_of result ≡ t.part_type declared.now path.now (Some (place_type_of of.entry)) }
+fn part_type<'a>(scope: &Scope<'a>, path: &[usize], of: PlaceType<'a>) -> Option<PlaceType<'a>>
+    ensures { option_map place_type_of result ≡ t.part_type scope.now.program.now.declarations path.now (Some (place_type_of of.entry)) }
 {
     let mut here = of;
     let mut rest = path;
     while let [first, after @ ..] = rest {
-        match child_type(declared, here, *first) {
+        match child_type(scope, here, *first) {
             Some(child) => here = child,
             None => return None,
         }
@@ -92,10 +85,10 @@ fn part_type<'a>(
 
 /// Whether the part at a path of a block has the type.
 #[tactic(auto, unfolding(c_meaning::specs::Evaluate::holds_type, c_meaning::specs::Evaluate::is_plain))]
-fn holds_type(declared: &[CDeclaration], of: Object, path: &[usize], block: &Block) -> bool
-    ensures { result ≡ m.holds_type declared.now (object_of of.entry) path.now block.now }
+fn holds_type(scope: &Scope, of: Object, path: &[usize], block: &Block) -> bool
+    ensures { result ≡ m.holds_type scope.now.program.now.declarations (object_of of.entry) path.now block.now }
 {
-    match part_type(declared, path, PlaceType::Plain(Object::written(&block.of))) {
+    match part_type(scope, path, PlaceType::Plain(Object::written(&block.of))) {
         Some(PlaceType::Plain(found)) => same_type(of, found),
         _ => false,
     }
@@ -139,12 +132,7 @@ fn found_pointer<'a>(
                 pointers: 0,
                 base: Base::Struct(name),
             };
-            if holds_type(
-                scope.program.declarations.as_slice(),
-                inner,
-                path.as_slice(),
-                block,
-            ) {
+            if holds_type(scope, inner, path.as_slice(), block) {
                 retyped(scope, of, Content::Pointer(number, path))
             } else {
                 Err(Halt::Stuck(StuckKind::Mismatch))

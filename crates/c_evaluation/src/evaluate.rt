@@ -5,12 +5,13 @@ ghost use Rattle.c_meaning.specs.Cells as c;
 ghost use Rattle.c_meaning.specs.Cells.{Leaf};
 ghost use Rattle.c_meaning.specs.Types.{AnyPointer};
 ghost use Rattle.c_tree.specs.Tree as t;
+ghost use Rattle.c_tree.specs.expressions.View.{base_place};
 ghost use Rattle.c_meaning.specs.Evaluate as m;
 ghost use Rattle.c_meaning.specs.Values as w;
 ghost use Rattle.c_evaluation.specs.Values.{value_of as worth};
 ghost use Rattle.c_evaluation.specs.Scopes.{view_at, site_of, HasRoom};
 ghost use Rattle.c_evaluation.specs.Halts.{Tells};
-ghost use Rattle.c_evaluation.specs.Evaluations.{number_value, onto_member, onto_element, decision, deciding, name_in};
+ghost use Rattle.c_evaluation.specs.Evaluations.{number_value, onto_member, onto_element, onto_index, onto_selector, onto_selectors, decision, deciding, name_in};
 
 use crate::cast::cast;
 use crate::halt::Halt;
@@ -22,7 +23,7 @@ use crate::types::ValueType;
 use crate::value::{Value, as_int};
 use c_cells::cell::{Cell, CellNode};
 use c_tree::Name;
-use c_tree::expr::{CExpr, CExprNode, CPlace, CPlaceNode};
+use c_tree::expr::{CBasePlace, CExpr, CExprNode, CPlace, CSelector};
 use c_tree::operators::{CBinary, CCast, CUnary};
 
 /// A number in the text. None at or above 2^63 stands in a text of the subset.
@@ -51,7 +52,7 @@ fn operate<'a>(op: CUnary, x: &Value) -> Result<Value<'a>, Halt>
 fn step_to_member<'a>(scope: &Scope<'a>, site: Site<'a>, name: &Name) -> Result<Site<'a>, Halt>
     ensures { Tells site_of result (onto_member (view_at scope.now) name.now (site_of site.entry)) }
 {
-    match member(scope.program.declarations.as_slice(), name, site.of) {
+    match member(scope, name, site.of) {
         Ok(step) => Ok(onward(site, step)?),
         Err(kind) => Err(Halt::Stuck(kind)),
     }
@@ -76,7 +77,7 @@ fn step_to_element<'a>(site: Site<'a>, x: &Value) -> Result<Site<'a>, Halt>
 fn combine<'a>(scope: &Scope<'a>, op: CBinary, x: &Value, y: &Value) -> Result<Value<'a>, Halt>
     ensures { Tells worth result (w.binary (view_at scope.now).declared op (worth x.now) (worth y.now)) }
 {
-    match binary(scope.program.declarations.as_slice(), op, x, y) {
+    match binary(scope, op, x, y) {
         Ok(value) => Ok(value),
         Err(kind) => Err(Halt::Stuck(kind)),
     }
@@ -95,12 +96,16 @@ fn variable_place<'a>(scope: &Scope<'a>, name: &'a Name) -> Result<Site<'a>, Hal
 }
 
 /// The name, where the place is one.
-fn single_name(place: &CPlace) -> Option<&Name>
+#[tactic(auto, using(crate::proofs::Selected::no_name))]
+pub fn single_name(place: &CPlace) -> Option<&Name>
     ensures { option_copied result ≡ name_in place.now }
 {
-    match &place.node {
-        CPlaceNode::Variable(name) => Some(name),
-        _ => None,
+    if !place.selectors.is_empty() {
+        return None;
+    }
+    match &place.base {
+        CBasePlace::Variable(name) => Some(name),
+        CBasePlace::Pointee(_) => None,
     }
 }
 
@@ -188,14 +193,48 @@ pub fn place_of<'a>(scope: &Scope<'a>, place: &'a CPlace) -> Result<Site<'a>, Ha
     requires { HasRoom scope.now }
     ensures { Tells site_of result (m.place (view_at scope.now) place.now) }
 {
-    match &place.node {
-        CPlaceNode::Variable(name) => variable_place(scope, name),
-        CPlaceNode::Pointee(a) => pointee_of(scope, a.get()),
-        CPlaceNode::Member(of, name) => {
-            let site = place_of(scope, of.get())?;
-            step_to_member(scope, site, name)
-        }
-        CPlaceNode::Index(of, a) => index_of(scope, of.get(), a.get()),
+    let site = base_site(scope, &place.base)?;
+    selected_site(scope, site, place.selectors.as_slice())
+}
+
+#[cycle(evaluate)]
+fn base_site<'a>(scope: &Scope<'a>, base: &'a CBasePlace) -> Result<Site<'a>, Halt>
+    requires { HasRoom scope.now }
+    ensures { Tells site_of result (m.place (view_at scope.now) (base_place base.now)) }
+{
+    match base {
+        CBasePlace::Variable(name) => variable_place(scope, name),
+        CBasePlace::Pointee(a) => pointee_of(scope, a.get()),
+    }
+}
+
+/// What selectors select of a place.
+#[cycle(evaluate)]
+fn selected_site<'a>(
+    scope: &Scope<'a>,
+    site: Site<'a>,
+    list: &'a [CSelector],
+) -> Result<Site<'a>, Halt>
+    requires { HasRoom scope.now }
+    ensures { Tells site_of result (onto_selectors (view_at scope.now) list.now (site_of site.entry)) }
+{
+    let mut site = site;
+    let mut rest = list;
+    while let [first, after @ ..] = rest {
+        site = step_to(scope, site, first)?;
+        rest = after;
+    }
+    Ok(site)
+}
+
+#[cycle(evaluate)]
+fn step_to<'a>(scope: &Scope<'a>, site: Site<'a>, selector: &'a CSelector) -> Result<Site<'a>, Halt>
+    requires { HasRoom scope.now }
+    ensures { Tells site_of result (onto_selector (view_at scope.now) selector.now (site_of site.entry)) }
+{
+    match selector {
+        CSelector::Member(name) => step_to_member(scope, site, name),
+        CSelector::Index(a) => index_of(scope, site, a),
     }
 }
 
@@ -209,11 +248,10 @@ fn pointee_of<'a>(scope: &Scope<'a>, a: &'a CExpr) -> Result<Site<'a>, Halt>
 }
 
 #[cycle(evaluate)]
-fn index_of<'a>(scope: &Scope<'a>, of: &'a CPlace, a: &'a CExpr) -> Result<Site<'a>, Halt>
+fn index_of<'a>(scope: &Scope<'a>, site: Site<'a>, a: &'a CExpr) -> Result<Site<'a>, Halt>
     requires { HasRoom scope.now }
-    ensures { Tells site_of result (m.place (view_at scope.now) (t.Index of.now a.now)) }
+    ensures { Tells site_of result (onto_index (view_at scope.now) a.now (site_of site.entry)) }
 {
-    let site = place_of(scope, of)?;
     let x = value_of(scope, a)?;
     step_to_element(site, &x)
 }

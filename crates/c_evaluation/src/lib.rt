@@ -7,12 +7,12 @@
 mod cast;
 pub mod evaluate;
 pub mod halt;
+pub mod lookup;
+pub mod numbers;
 mod operate;
 pub mod place;
 pub mod read;
 pub mod scope;
 pub mod store;
-#[cfg(test)]
-mod tests;
 pub mod types;
 pub mod value;

@@ -6,11 +6,11 @@ ghost use Rattle.c_evaluation.specs.Halts.{said};
 ghost use Rattle.c_evaluation.specs.Values.{value_of, content_of};
 ghost use Rattle.c_evaluation.specs.Operators.{of_ints, of_words, of_shift, shift_of};
 
+use crate::scope::Scope;
 use crate::types::alike;
 use crate::value::{Content, Value, as_int, as_word, held, type_of};
 use c_meaning::StuckKind;
 use c_tree::operators::{CBinary, CUnary};
-use c_tree::program::CDeclaration;
 
 /// 1 or 0.
 #[tactic(auto, unfolding(c_meaning::specs::Values::truth, c_meaning::specs::Values::int))]
@@ -117,10 +117,10 @@ fn same_content(x: Content, y: Content) -> Result<bool, StuckKind>
 
 /// Whether two scalars of alike types are equal.
 #[tactic(auto, using(crate::proofs::Binary::equal_unlike, crate::proofs::Binary::equal_left, crate::proofs::Binary::equal_right, crate::proofs::Binary::equal_both))]
-fn equal(declared: &[CDeclaration], x: &Value, y: &Value) -> Result<bool, StuckKind>
-    ensures { said (λ b. b) result ≡ m.equal declared.now (value_of x.now) (value_of y.now) }
+fn equal(scope: &Scope, x: &Value, y: &Value) -> Result<bool, StuckKind>
+    ensures { said (λ b. b) result ≡ m.equal scope.now.program.now.declarations (value_of x.now) (value_of y.now) }
 {
-    if !alike(declared, type_of(x), type_of(y)) {
+    if !alike(scope, type_of(x), type_of(y)) {
         return Err(StuckKind::Mismatch);
     }
     match (held(x), held(y)) {
@@ -234,15 +234,10 @@ fn truth_of<'a>(x: &Value) -> Result<Value<'a>, StuckKind>
 
 /// Whether two values are equal, or differ, as 1 or 0.
 #[tactic(auto, using(crate::proofs::Binary::same_none, crate::proofs::Binary::same_some, crate::proofs::Binary::other_none, crate::proofs::Binary::other_some))]
-fn equality<'a>(
-    declared: &[CDeclaration],
-    negated: bool,
-    x: &Value,
-    y: &Value,
-) -> Result<Value<'a>, StuckKind>
-    ensures { said value_of result ≡ m.binary declared.now (if negated then CBinary.NotEqual else CBinary.Equal) (value_of x.now) (value_of y.now) }
+fn equality<'a>(scope: &Scope, negated: bool, x: &Value, y: &Value) -> Result<Value<'a>, StuckKind>
+    ensures { said value_of result ≡ m.binary scope.now.program.now.declarations (if negated then CBinary.NotEqual else CBinary.Equal) (value_of x.now) (value_of y.now) }
 {
-    match equal(declared, x, y) {
+    match equal(scope, x, y) {
         Ok(same) => Ok(truth(same != negated)),
         Err(kind) => Err(kind),
     }
@@ -250,13 +245,8 @@ fn equality<'a>(
 
 /// An operator on two values.
 #[tactic(auto, unfolding(c_meaning::specs::Values::binary, c_meaning::specs::Values::ordered))]
-pub fn binary<'a>(
-    declared: &[CDeclaration],
-    op: CBinary,
-    x: &Value,
-    y: &Value,
-) -> Result<Value<'a>, StuckKind>
-    ensures { said value_of result ≡ m.binary declared.now op (value_of x.now) (value_of y.now) }
+pub fn binary<'a>(scope: &Scope, op: CBinary, x: &Value, y: &Value) -> Result<Value<'a>, StuckKind>
+    ensures { said value_of result ≡ m.binary scope.now.program.now.declarations op (value_of x.now) (value_of y.now) }
 {
     match op {
         CBinary::Add => on_ints(CBinary::Add, x, y),
@@ -268,8 +258,8 @@ pub fn binary<'a>(
         CBinary::AtMost => on_ints(CBinary::AtMost, x, y),
         CBinary::Greater => on_ints(CBinary::Greater, x, y),
         CBinary::AtLeast => on_ints(CBinary::AtLeast, x, y),
-        CBinary::Equal => equality(declared, false, x, y),
-        CBinary::NotEqual => equality(declared, true, x, y),
+        CBinary::Equal => equality(scope, false, x, y),
+        CBinary::NotEqual => equality(scope, true, x, y),
         CBinary::And => truth_of(y),
         CBinary::Or => truth_of(y),
         CBinary::BitAnd => on_words(CBinary::BitAnd, x, y),

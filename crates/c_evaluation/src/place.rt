@@ -1,6 +1,6 @@
 //! Places.
 ghost use Rattle.std.specs.Prelude.{◌≡◌, ◌∷◌, ◌++◌, [], IfOk};
-ghost use Rattle.std.specs.Option.{option_copied, option_map};
+ghost use Rattle.std.specs.Option.{option_map};
 ghost use Rattle.c_meaning.specs.Evaluate as m;
 ghost use Rattle.c_tree.specs.Tree.{Struct};
 ghost use Rattle.c_meaning.specs.Types as t;
@@ -8,11 +8,13 @@ ghost use Rattle.c_evaluation.specs.Types.{place_type_of};
 ghost use Rattle.c_evaluation.specs.Scopes.{site_of, step_of};
 ghost use Rattle.c_evaluation.specs.Halts.{said};
 
+use crate::lookup::members_of;
+use crate::scope::Scope;
 use crate::types::{Layer, Object, PlaceType};
 use c_cells::Path;
 use c_meaning::StuckKind;
 use c_tree::Name;
-use c_tree::program::{CDeclaration, CMember};
+use c_tree::program::CMember;
 use std::alloc::AllocError;
 
 /// Where a place begins: at a variable, or in a block that a pointer gave.
@@ -68,33 +70,12 @@ fn member_named<'a>(members: &'a [CMember], name: &Name) -> Option<Step<'a>>
     None
 }
 
-/// The members of a struct.
-#[tactic(auto, unfolding(c_meaning::specs::Types::members_of))]
-pub fn members_of<'a>(declared: &'a [CDeclaration], name: &Name) -> Option<&'a [CMember]>
-    ensures { option_copied result ≡ t.members_of name.now declared.now }
-{
-    let mut rest = declared;
-    while let [first, after @ ..] = rest {
-        if let CDeclaration::Struct(found) = first {
-            if name.as_slice() == found.name.as_slice() {
-                return Some(found.members.as_slice());
-            }
-        }
-        rest = after;
-    }
-    None
-}
-
 /// The member with a name, of a struct.
 #[tactic(auto, using(crate::proofs::Places::no_struct, crate::proofs::Places::no_member, crate::proofs::Places::member_found))]
-fn struct_member<'a>(
-    declared: &'a [CDeclaration],
-    of: &Name,
-    name: &Name,
-) -> Result<Step<'a>, StuckKind>
-    ensures { said step_of result ≡ m.member declared.now name.now (t.Plain (Struct of.now)) }
+fn struct_member<'a>(scope: &Scope<'a>, of: &Name, name: &Name) -> Result<Step<'a>, StuckKind>
+    ensures { said step_of result ≡ m.member scope.now.program.now.declarations name.now (t.Plain (Struct of.now)) }
 {
-    match members_of(declared, of) {
+    match members_of(scope, of) {
         None => Err(StuckKind::UnknownName),
         Some(members) => match member_named(members, name) {
             None => Err(StuckKind::UnknownName),
@@ -105,16 +86,12 @@ fn struct_member<'a>(
 
 /// The member with a name.
 #[tactic(auto, unfolding(c_meaning::specs::Evaluate::member))]
-pub fn member<'a>(
-    declared: &'a [CDeclaration],
-    name: &Name,
-    of: PlaceType<'a>,
-) -> Result<Step<'a>, StuckKind>
-    ensures { said step_of result ≡ m.member declared.now name.now (place_type_of of.entry) }
+pub fn member<'a>(scope: &Scope<'a>, name: &Name, of: PlaceType<'a>) -> Result<Step<'a>, StuckKind>
+    ensures { said step_of result ≡ m.member scope.now.program.now.declarations name.now (place_type_of of.entry) }
 {
     match of {
         PlaceType::Plain(of) => match of.layer() {
-            Layer::Struct(of) => struct_member(declared, of, name),
+            Layer::Struct(of) => struct_member(scope, of, name),
             _ => Err(StuckKind::Mismatch),
         },
         PlaceType::Array(_, _) => Err(StuckKind::Mismatch),

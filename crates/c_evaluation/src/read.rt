@@ -11,8 +11,9 @@ ghost use Rattle.c_evaluation.specs.Scopes.{view_at, root_of, site_of, part_valu
 ghost use Rattle.c_evaluation.specs.Halts.{said, Tells};
 
 use crate::halt::Halt;
+use crate::lookup::{named, number_of, signature};
 use crate::place::{Root, Site};
-use crate::scope::{Scope, named, number_of, signature};
+use crate::scope::Scope;
 use crate::types::{Layer, Object, PlaceType, ValueType};
 use crate::value::{Content, Value, held, type_of};
 use c_cells::Path;

@@ -1,24 +1,28 @@
 //! Types of places and of values.
 ghost use Rattle.std.specs.Prelude.{◌≡◌, ◌+◌, map, IfOk, IfErr};
 ghost use Rattle.c_tree.specs.Tree as t;
+ghost use Rattle.c_tree.specs.types.View.{base_of as written_base};
 ghost use Rattle.c_meaning.specs.Types as m;
 ghost use Rattle.c_meaning.specs.States.{variable_type};
-ghost use Rattle.c_evaluation.specs.Types.{object_of, layer_of, value_type_of, signature_of, typedef_signature, target_of, is_byte};
-ghost use Rattle.std.specs.Option.{option_copied, option_map};
+ghost use Rattle.c_evaluation.specs.Types.{base_of, object_of, layer_of, value_type_of, signature_of, target_of, is_byte};
+ghost use Rattle.std.specs.Option.{option_map};
 
 use crate::halt::Halt;
+use crate::lookup::typedef_of;
+use crate::scope::Scope;
 use c_tree::Name;
-use c_tree::program::{CDeclaration, CTypedef, CVariable};
-use c_tree::types::{CType, CTypeNode};
+use c_tree::program::CVariable;
+use c_tree::types::{CBaseType, CType};
 
-/// Where a type comes from.
+/// A type that is no pointer to another.
 #[derive(Clone, Copy)]
 pub enum Base<'a> {
     Int,
     Word,
+    Byte,
     VoidPointer,
     Struct(&'a Name),
-    Written(&'a CType),
+    Named(&'a Name),
 }
 
 /// A type: so many pointers around another.
@@ -62,6 +66,22 @@ pub enum ValueType<'a> {
     Routine(Signature<'a>),
 }
 
+impl<'a> Base<'a> {
+    /// The base that is written so.
+    pub fn written(base: &'a CBaseType) -> Base<'a>
+        ensures { base_of result ≡ written_base base.now }
+    {
+        match base {
+            CBaseType::Int => Base::Int,
+            CBaseType::Word => Base::Word,
+            CBaseType::Byte => Base::Byte,
+            CBaseType::VoidPointer => Base::VoidPointer,
+            CBaseType::Struct(name) => Base::Struct(name),
+            CBaseType::Named(name) => Base::Named(name),
+        }
+    }
+}
+
 impl<'a> Object<'a> {
     pub fn int() -> Object<'a>
         ensures { object_of result ≡ t.Int }
@@ -86,8 +106,8 @@ impl<'a> Object<'a> {
         ensures { object_of result ≡ of.now }
     {
         Object {
-            pointers: 0,
-            base: Base::Written(of),
+            pointers: of.stars,
+            base: Base::written(&of.base),
         }
     }
 
@@ -137,42 +157,35 @@ impl<'a> Object<'a> {
         match self.base {
             Base::Int => Layer::Int,
             Base::Word => Layer::Word,
+            Base::Byte => Layer::Byte,
             Base::VoidPointer => Layer::VoidPointer,
             Base::Struct(name) => Layer::Struct(name),
-            Base::Written(of) => written_layer(of),
+            Base::Named(name) => Layer::Named(name),
         }
     }
 }
 
-fn written_layer<'a>(of: &'a CType) -> Layer<'a>
-    ensures { layer_of result ≡ of.now }
+#[tactic(auto, unfolding(c_meaning::specs::Types::type_eq))]
+fn same_base(a: Base, b: Base) -> bool
+    ensures { result ≡ m.type_eq (base_of a.entry) (base_of b.entry) }
 {
-    match &of.node {
-        CTypeNode::Int => Layer::Int,
-        CTypeNode::Word => Layer::Word,
-        CTypeNode::Byte => Layer::Byte,
-        CTypeNode::VoidPointer => Layer::VoidPointer,
-        CTypeNode::Struct(name) => Layer::Struct(name),
-        CTypeNode::Named(name) => Layer::Named(name),
-        CTypeNode::Pointer(to) => Layer::Pointer(Object::written(to.get())),
+    match (a, b) {
+        (Base::Int, Base::Int) => true,
+        (Base::Word, Base::Word) => true,
+        (Base::Byte, Base::Byte) => true,
+        (Base::VoidPointer, Base::VoidPointer) => true,
+        (Base::Struct(m), Base::Struct(n)) => m.as_slice() == n.as_slice(),
+        (Base::Named(m), Base::Named(n)) => m.as_slice() == n.as_slice(),
+        _ => false,
     }
 }
 
 /// Whether two types are one.
-#[tactic(auto, unfolding(c_meaning::specs::Types::type_eq))]
+#[tactic(auto, using(crate::proofs::Pointers::same_pointers, crate::proofs::Pointers::other_pointers))]
 pub fn same_type(a: Object, b: Object) -> bool
     ensures { result ≡ m.type_eq (object_of a.entry) (object_of b.entry) }
 {
-    match (a.layer(), b.layer()) {
-        (Layer::Int, Layer::Int) => true,
-        (Layer::Word, Layer::Word) => true,
-        (Layer::Byte, Layer::Byte) => true,
-        (Layer::VoidPointer, Layer::VoidPointer) => true,
-        (Layer::Struct(m), Layer::Struct(n)) => m.as_slice() == n.as_slice(),
-        (Layer::Named(m), Layer::Named(n)) => m.as_slice() == n.as_slice(),
-        (Layer::Pointer(m), Layer::Pointer(n)) => same_type(m, n),
-        _ => false,
-    }
+    a.pointers == b.pointers && same_base(a.base, b.base)
 }
 
 /// Whether two results are one.
@@ -234,29 +247,12 @@ fn same_signature(a: Signature, b: Signature) -> bool
     same_result(a.result, b.result) && same_variables(a.parameters, b.parameters)
 }
 
-/// The signature that a typedef's name stands for.
-#[tactic(auto, unfolding(c_meaning::specs::Types::typedef_of))]
-fn typedef_of<'a>(name: &Name, declared: &'a [CDeclaration]) -> Option<&'a CTypedef>
-    ensures { m.typedef_of name.now declared.now ≡ option_map typedef_signature (option_copied result) }
-{
-    let mut rest = declared;
-    while let [first, after @ ..] = rest {
-        if let CDeclaration::Typedef(found) = first {
-            if name.as_slice() == found.name.as_slice() {
-                return Some(found);
-            }
-        }
-        rest = after;
-    }
-    None
-}
-
 /// Whether a function with the signature has the type that a name stands for.
 #[tactic(auto, unfolding(c_meaning::specs::Types::names_signature, c_meaning::specs::Types::signature_eq))]
-fn names_signature(declared: &[CDeclaration], name: &Name, of: Signature) -> bool
-    ensures { result ≡ m.names_signature (m.typedef_of name.now declared.now) (signature_of of.entry) }
+fn names_signature(scope: &Scope, name: &Name, of: Signature) -> bool
+    ensures { result ≡ m.names_signature (m.typedef_of name.now scope.now.program.now.declarations) (signature_of of.entry) }
 {
-    match typedef_of(name, declared) {
+    match typedef_of(scope, name) {
         None => false,
         Some(found) => {
             same_result(&found.result, of.result)
@@ -280,27 +276,27 @@ fn is_pointer(of: Object) -> bool
 
 /// Whether a function with the signature has the type.
 #[tactic(auto, unfolding(c_meaning::specs::Types::alike))]
-fn holds_routine(declared: &[CDeclaration], of: Object, routine: Signature) -> bool
-    ensures one { result ≡ m.alike declared.now (value_type_of (ValueType.Of of.entry)) (value_type_of (ValueType.Routine routine.entry)) }
-    ensures other { result ≡ m.alike declared.now (value_type_of (ValueType.Routine routine.entry)) (value_type_of (ValueType.Of of.entry)) }
+fn holds_routine(scope: &Scope, of: Object, routine: Signature) -> bool
+    ensures one { result ≡ m.alike scope.now.program.now.declarations (value_type_of (ValueType.Of of.entry)) (value_type_of (ValueType.Routine routine.entry)) }
+    ensures other { result ≡ m.alike scope.now.program.now.declarations (value_type_of (ValueType.Routine routine.entry)) (value_type_of (ValueType.Of of.entry)) }
 {
     match of.layer() {
-        Layer::Named(name) => names_signature(declared, name, routine),
+        Layer::Named(name) => names_signature(scope, name, routine),
         _ => false,
     }
 }
 
 /// Whether values of two types are alike.
 #[tactic(auto, unfolding(c_meaning::specs::Types::alike))]
-pub fn alike(declared: &[CDeclaration], a: ValueType, b: ValueType) -> bool
-    ensures { result ≡ m.alike declared.now (value_type_of a.entry) (value_type_of b.entry) }
+pub fn alike(scope: &Scope, a: ValueType, b: ValueType) -> bool
+    ensures { result ≡ m.alike scope.now.program.now.declarations (value_type_of a.entry) (value_type_of b.entry) }
 {
     match (a, b) {
         (ValueType::Of(a), ValueType::Of(b)) => same_type(a, b),
         (ValueType::Of(a), ValueType::AnyPointer) => is_pointer(a),
         (ValueType::AnyPointer, ValueType::Of(b)) => is_pointer(b),
-        (ValueType::Of(a), ValueType::Routine(r)) => holds_routine(declared, a, r),
-        (ValueType::Routine(r), ValueType::Of(b)) => holds_routine(declared, b, r),
+        (ValueType::Of(a), ValueType::Routine(r)) => holds_routine(scope, a, r),
+        (ValueType::Routine(r), ValueType::Of(b)) => holds_routine(scope, b, r),
         (ValueType::Routine(r), ValueType::Routine(s)) => same_signature(r, s),
         (ValueType::AnyPointer, ValueType::AnyPointer) => true,
         (ValueType::AnyPointer, ValueType::Routine(_)) => true,

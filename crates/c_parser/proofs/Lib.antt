@@ -9,6 +9,7 @@ pub mod Groups
 pub mod Holes
 pub mod PartsHoles
 pub mod Pushed
+pub mod Selected
 pub mod Shrinks
 pub mod TrackedCalls
 pub mod TrackedExpressions

@@ -59,7 +59,7 @@ fn member<'a>(
 {
     let rest = expect(tokens, Mark::Dot)?;
     let (name, rest) = name(alloc, rest)?;
-    Ok((CPlace::member(alloc, place, name)?, rest))
+    Ok((CPlace::member(place, name)?, rest))
 }
 
 /// `[index]`, after a place.
@@ -76,7 +76,7 @@ fn element<'a>(
     let rest = expect(tokens, Mark::OpenBracket)?;
     let (index, rest) = expr(alloc, rest, depth)?;
     let rest = expect(rest, Mark::CloseBracket)?;
-    Ok((CPlace::index(alloc, place, index)?, rest))
+    Ok((CPlace::index(place, index)?, rest))
 }
 
 #[tactic(auto, unfolding(crate::specs::Expressions::selected))]
@@ -148,7 +148,7 @@ fn variable<'a>(
     ensures { Gives (λ x. (x.0, tokens_of x.1.now)) result (spec.variable (tokens_of tokens.now)) }
 {
     let (name, rest) = name(alloc, tokens)?;
-    Ok((CPlace::variable(name), rest))
+    Ok((CPlace::variable(alloc, name), rest))
 }
 
 /// A place before its selectors.

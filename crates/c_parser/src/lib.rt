@@ -9,8 +9,6 @@ mod parsing;
 pub mod program;
 mod statements;
 mod step;
-#[cfg(test)]
-mod tests;
 mod types;
 
 pub use parsing::parse;

@@ -312,7 +312,7 @@ fn after_struct_name<'a>(
     if is(tokens, Mark::OpenBrace) {
         return structure(alloc, tokens, parts, name);
     }
-    let (of, rest) = stars(alloc, tokens, CType::structure(name))?;
+    let (of, rest) = stars(tokens, CType::structure(name))?;
     after_result(alloc, rest, parts, Some(of))
 }
 

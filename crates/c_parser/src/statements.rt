@@ -14,7 +14,7 @@ use crate::step::{after, expect, expect_word, is, is_name, is_word, name, same};
 use crate::types::object_type;
 use c_grammar::token::{CToken, Mark, Word};
 use c_tree::Name;
-use c_tree::expr::{CExpr, CPlace, CPlaceNode};
+use c_tree::expr::{CBasePlace, CExpr, CPlace};
 use c_tree::statement::{CCallee, CStatement};
 use std::alloc::Global;
 use token_parsing::refusal::{ParseError, too_deep, unexpected};
@@ -268,25 +268,32 @@ fn assigned<'a>(
 }
 
 /// The place as a callee.
+#[tactic(auto, using(crate::proofs::Selected::no_callee))]
 fn callee_of(place: CPlace) -> Option<CCallee>
     ensures { result ≡ spec.callee_of place }
 {
-    let CPlace { node } = place;
-    match node {
-        CPlaceNode::Variable(name) => Some(CCallee::Direct(name)),
-        CPlaceNode::Pointee(pointer) => Some(CCallee::Indirect(pointer.into_inner())),
-        CPlaceNode::Member(_, _) | CPlaceNode::Index(_, _) => None,
+    let CPlace { base, selectors } = place;
+    if !selectors.is_empty() {
+        return None;
+    }
+    match base {
+        CBasePlace::Variable(name) => Some(CCallee::Direct(name)),
+        CBasePlace::Pointee(pointer) => Some(CCallee::Indirect(pointer.into_inner())),
     }
 }
 
 /// The place as a label.
+#[tactic(auto, using(crate::proofs::Selected::no_label))]
 fn label_of(place: CPlace) -> Option<Name>
     ensures { result ≡ spec.label_of place }
 {
-    let CPlace { node } = place;
-    match node {
-        CPlaceNode::Variable(name) => Some(name),
-        CPlaceNode::Pointee(_) | CPlaceNode::Member(_, _) | CPlaceNode::Index(_, _) => None,
+    let CPlace { base, selectors } = place;
+    if !selectors.is_empty() {
+        return None;
+    }
+    match base {
+        CBasePlace::Variable(name) => Some(name),
+        CBasePlace::Pointee(_) => None,
     }
 }
 

@@ -95,19 +95,17 @@ fn base_type<'a>(
 /// A pointer to the type, where a star is next.
 #[tactic(auto, unfolding(crate::specs::Types::pointer_to))]
 fn pointer_to<'a>(
-    alloc: Global,
     tokens: &'a [CToken<'a>],
     of: CType,
 ) -> Result<(CType, &'a [CToken<'a>]), ParseError>
     ensures { Gives (λ x. (x.0, tokens_of x.1.now)) result (spec.pointer_to of (tokens_of tokens.now)) }
 {
     let rest = expect(tokens, Mark::Star)?;
-    Ok((CType::pointer(alloc, of)?, rest))
+    Ok((CType::pointer(of)?, rest))
 }
 
 /// The stars after a type.
 pub fn stars<'a>(
-    alloc: Global,
     tokens: &'a [CToken<'a>],
     of: CType,
 ) -> Result<(CType, &'a [CToken<'a>]), ParseError>
@@ -119,7 +117,7 @@ pub fn stars<'a>(
         if !is(rest, Mark::Star) {
             return Ok((of, rest));
         }
-        let (pointer, after) = pointer_to(alloc, rest, of)?;
+        let (pointer, after) = pointer_to(rest, of)?;
         of = pointer;
         rest = same(after);
     }
@@ -134,21 +132,18 @@ pub fn object_type<'a>(
     ensures { Gives (λ x. (x.0, tokens_of x.1.now)) result (spec.object_type (tokens_of tokens.now)) }
 {
     let (of, rest) = base_type(alloc, tokens)?;
-    stars(alloc, rest, of)
+    stars(rest, of)
 }
 
 /// `void`, and `void *` with further stars.
 #[tactic(auto, unfolding(crate::specs::Types::after_void))]
-fn after_void<'a>(
-    alloc: Global,
-    tokens: &'a [CToken<'a>],
-) -> Result<(Option<CType>, &'a [CToken<'a>]), ParseError>
+fn after_void<'a>(tokens: &'a [CToken<'a>]) -> Result<(Option<CType>, &'a [CToken<'a>]), ParseError>
     ensures { Gives (λ x. (x.0, tokens_of x.1.now)) result (spec.after_void (tokens_of tokens.now)) }
 {
     let rest = expect_word(tokens, Word::Void)?;
     if is(rest, Mark::Star) {
         let rest = expect(rest, Mark::Star)?;
-        let (of, rest) = stars(alloc, rest, CType::void_pointer())?;
+        let (of, rest) = stars(rest, CType::void_pointer())?;
         return Ok((Some(of), rest));
     }
     Ok((None, rest))
@@ -163,7 +158,7 @@ pub fn result_type<'a>(
     ensures { Gives (λ x. (x.0, tokens_of x.1.now)) result (spec.result_type (tokens_of tokens.now)) }
 {
     if is_word(tokens, Word::Void) {
-        return after_void(alloc, tokens);
+        return after_void(tokens);
     }
     let (of, rest) = object_type(alloc, tokens)?;
     Ok((Some(of), rest))

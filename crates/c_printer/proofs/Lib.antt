@@ -1,4 +1,5 @@
 pub mod Numbers
+pub mod PlaceTexts
 pub mod ReadBack
 pub mod ReadsDeclaration
 pub mod ReadsExpr

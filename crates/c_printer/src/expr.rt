@@ -2,8 +2,10 @@
 
 ghost use Rattle.std.specs.Prelude.{◌≡◌, ◌++◌, OnOk, codes, decimal};
 ghost use Rattle.c_printer.specs.Text.{unary_text, binary_text, cast_text, expr_text, place_text};
+ghost use Rattle.c_printer.specs.Selectors.{selector_text, selectors_text};
+ghost use Rattle.c_tree.specs.expressions.View.{base_place};
 
-use c_tree::expr::{CExpr, CExprNode, CPlace, CPlaceNode};
+use c_tree::expr::{CBasePlace, CExpr, CExprNode, CPlace, CSelector};
 use c_tree::operators::{CBinary, CCast, CUnary};
 use itoa::Buffer;
 use std::alloc::AllocError;
@@ -124,18 +126,44 @@ fn put_converted(out: &mut Vec<u8>, to: &CCast, a: &CExpr) -> Result<(), AllocEr
 pub(crate) fn put_place(out: &mut Vec<u8>, p: &CPlace) -> Result<(), AllocError>
     ensures { OnOk result (out.new.items ≡ out.old.items ++ place_text p.now) }
 {
-    match &p.node {
-        CPlaceNode::Variable(name) => out.extend_from_slice(name.as_slice()),
-        CPlaceNode::Pointee(a) => put_pointee(out, a.get()),
-        CPlaceNode::Member(p, name) => {
-            put_place(out, p.get())?;
+    put_base_place(out, &p.base)?;
+    put_selectors(out, p.selectors.as_slice())
+}
+
+#[cycle(expr)]
+fn put_base_place(out: &mut Vec<u8>, base: &CBasePlace) -> Result<(), AllocError>
+    ensures { OnOk result (out.new.items ≡ out.old.items ++ place_text (base_place base.now)) }
+{
+    match base {
+        CBasePlace::Variable(name) => out.extend_from_slice(name.as_slice()),
+        CBasePlace::Pointee(a) => put_pointee(out, a.get()),
+    }
+}
+
+#[cycle(expr)]
+fn put_selectors(out: &mut Vec<u8>, list: &[CSelector]) -> Result<(), AllocError>
+    ensures { OnOk result (out.new.items ≡ out.old.items ++ selectors_text list.now) }
+{
+    let mut rest = list;
+    while let [first, after @ ..] = rest {
+        put_selector(out, first)?;
+        rest = after;
+    }
+    Ok(())
+}
+
+#[cycle(expr)]
+fn put_selector(out: &mut Vec<u8>, selector: &CSelector) -> Result<(), AllocError>
+    ensures { OnOk result (out.new.items ≡ out.old.items ++ selector_text selector.now) }
+{
+    match selector {
+        CSelector::Member(name) => {
             out.extend_from_slice(b".")?;
             out.extend_from_slice(name.as_slice())
         }
-        CPlaceNode::Index(p, a) => {
-            put_place(out, p.get())?;
+        CSelector::Index(a) => {
             out.extend_from_slice(b"[")?;
-            put_expr(out, a.get())?;
+            put_expr(out, a)?;
             out.extend_from_slice(b"]")
         }
     }

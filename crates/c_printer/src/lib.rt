@@ -7,8 +7,6 @@
 mod expr;
 mod program;
 mod statement;
-#[cfg(test)]
-mod tests;
 mod types;
 
 pub use program::print;

@@ -2,46 +2,56 @@
 
 ghost use Rattle.std.specs.Prelude.{◌≡◌, ◌++◌, OnOk};
 ghost use Rattle.c_printer.specs.Text.{star_text, type_text, gap_text, result_text};
+ghost use Rattle.c_tree.specs.types.View.{base_of, pointers};
 
-use c_tree::types::{CType, CTypeNode};
+use c_tree::types::{CBaseType, CType};
 use std::alloc::AllocError;
 
-fn star(of: &CType) -> &'static [u8]
-    ensures { result.now ≡ star_text of.now }
+/// The star after a base with so many stars.
+fn star(base: &CBaseType, stars: usize) -> &'static [u8]
+    ensures { result.now ≡ star_text (pointers stars (base_of base.now)) }
 {
-    match &of.node {
-        CTypeNode::VoidPointer | CTypeNode::Pointer(_) => b"*",
-        _ => b" *",
+    match (base, stars) {
+        (CBaseType::VoidPointer, 0) => b"*",
+        (_, 0) => b" *",
+        _ => b"*",
     }
 }
 
 fn gap(of: &CType) -> &'static [u8]
     ensures { result.now ≡ gap_text of.now }
 {
-    match &of.node {
-        CTypeNode::VoidPointer | CTypeNode::Pointer(_) => b"",
-        _ => b" ",
+    match (&of.base, of.stars) {
+        (CBaseType::VoidPointer, 0) => b"",
+        (_, 0) => b" ",
+        _ => b"",
+    }
+}
+
+fn put_base(out: &mut Vec<u8>, base: &CBaseType) -> Result<(), AllocError>
+    ensures { OnOk result (out.new.items ≡ out.old.items ++ type_text (base_of base.now)) }
+{
+    match base {
+        CBaseType::Int => out.extend_from_slice(b"int64_t"),
+        CBaseType::Word => out.extend_from_slice(b"uint64_t"),
+        CBaseType::Byte => out.extend_from_slice(b"unsigned char"),
+        CBaseType::Struct(name) => {
+            out.extend_from_slice(b"struct ")?;
+            out.extend_from_slice(name.as_slice())
+        }
+        CBaseType::Named(name) => out.extend_from_slice(name.as_slice()),
+        CBaseType::VoidPointer => out.extend_from_slice(b"void *"),
     }
 }
 
 pub(crate) fn put_type(out: &mut Vec<u8>, of: &CType) -> Result<(), AllocError>
     ensures { OnOk result (out.new.items ≡ out.old.items ++ type_text of.now) }
 {
-    match &of.node {
-        CTypeNode::Int => out.extend_from_slice(b"int64_t"),
-        CTypeNode::Word => out.extend_from_slice(b"uint64_t"),
-        CTypeNode::Byte => out.extend_from_slice(b"unsigned char"),
-        CTypeNode::Struct(name) => {
-            out.extend_from_slice(b"struct ")?;
-            out.extend_from_slice(name.as_slice())
-        }
-        CTypeNode::Named(name) => out.extend_from_slice(name.as_slice()),
-        CTypeNode::VoidPointer => out.extend_from_slice(b"void *"),
-        CTypeNode::Pointer(to) => {
-            put_type(out, to.get())?;
-            out.extend_from_slice(star(to.get()))
-        }
+    put_base(out, &of.base)?;
+    for stars in 0..of.stars {
+        out.extend_from_slice(star(&of.base, stars))?;
     }
+    Ok(())
 }
 
 /// A type with what stands between it and the name that it gives.

@@ -222,3 +222,48 @@ fn no_text_begins_another(rt: HostRuntime) -> Result<(), Fail> {
     }
     Ok(())
 }
+
+/// A printed text with a part in its midst that repeats.
+struct Long {
+    before: &'static [u8],
+    part: &'static [u8],
+    after: &'static [u8],
+}
+
+/// A type, and places.
+static LONG: [Long; 3] = [
+    Long {
+        before: b"int64_t ",
+        part: b"*",
+        after: b"a;\nint main(void) {\n}\n",
+    },
+    Long {
+        before: b"int main(void) {\n  a",
+        part: b".f",
+        after: b" = INT64_C(0);\n}\n",
+    },
+    Long {
+        before: b"int main(void) {\n  a",
+        part: b"[INT64_C(0)]",
+        after: b" = INT64_C(0);\n}\n",
+    },
+];
+
+#[test]
+fn stars_and_selectors_nest_nothing(rt: HostRuntime) -> Result<(), Fail> {
+    for long in &LONG {
+        let mut text = HEAD.to_vec(rt.alloc())?;
+        text.extend_from_slice(long.before)?;
+        for _ in 0..100_000 {
+            text.extend_from_slice(long.part)?;
+        }
+        text.extend_from_slice(long.after)?;
+        assert!(rt; text.len() <= LONGEST_INPUT);
+        let Ok(program) = read(rt.alloc(), text.as_slice()) else {
+            return Err("a text was refused".into());
+        };
+        let printed = print(rt.alloc(), &program)?;
+        assert!(rt; printed.as_slice() == text.as_slice());
+    }
+    Ok(())
+}

@@ -13,12 +13,13 @@ use Rattle.c_tree.specs.declared.program.CProgram.{CProgram}
 use Rattle.c_meaning.specs.declared.StuckKind.{StuckKind}
 use Rattle.c_meaning.specs.declared.StuckKind.TheVariants as k
 use Rattle.c_meaning.specs.Cells.{Name, Cell, Tree, Block, Blocks}
-use Rattle.c_meaning.specs.Answer.{Answer, Got, Bad, ◌>>=◌, or_bad}
+use Rattle.c_meaning.specs.Answer.{Answer, Got, Bad, ◌>>=◌, or_bad, or_else}
 use Rattle.c_meaning.specs.Types.{Signature, Of, AnyPointer, Routine}
 use Rattle.c_meaning.specs.Values.{Value, Typed, leaf, converted}
 use Rattle.c_meaning.specs.Evaluate.{View, Site, root_number, value, values}
 use Rattle.c_meaning.specs.States as m
 use Rattle.c_meaning.specs.Steps.{called_cell, called_value, called, target_of, parameter_blocks}
+use Rattle.name_tables.specs.Places.{first_from, function_name}
 use Rattle.std.proofs.lemmas.List.{reverse-append, length-reverse}
 use Rattle.std.specs.Result.{IsErrAnd}
 use Rattle.c_evaluation.specs.declared.halt.Halt.{Halt}
@@ -72,6 +73,13 @@ module _ (x : Value) (of : ObjectType) where
 
   pub called_other : type_in x ≡ Of of → is_named of ≡ false → called_value x ≡ Bad k.Mismatch
   called_other = elim x as (λ x. type_in x ≡ Of of → is_named of ≡ false → called_value x ≡ Bad k.Mismatch) [ Typed from tree ↦ (λ h l. ap (λ q. called_value (Typed q tree)) h ∙ other_called of tree l) ]
+
+pub function_first : (x : Name) (fs : List CFunction) (i : ℕ) → first_from i x (map function_name fs) ≡ function_from i x fs
+unfolding first_from or_else
+function_first x [] i = refl
+function_first x (f ∷ fs) i =
+    elim (bytes_eq x f.name) as (λ b. or_else (if b then Some i else None) (first_from (i + 1) x (map function_name fs)) ≡ (if b then Some i else function_from (i + 1) x fs))
+    [ true ↦ refl | false ↦ function_first x fs (i + 1) ]
 
 module _ (functions : List CFunction) (x : Value) where
   pub no_function : (kind : StuckKind) → called_value x ≡ Bad kind → function_called functions x ≡ Bad kind

@@ -6,6 +6,7 @@ pub mod Marking
 pub mod Leaving
 pub mod Entering
 pub mod Running
+pub mod Statuses
 pub mod Stepping
 pub mod Seeking
 pub mod Machining

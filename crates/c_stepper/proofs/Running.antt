@@ -8,6 +8,7 @@ use Rattle.c_meaning.specs.Steps.{Next, Onward, Ended, Halted, CStep}
 use Rattle.c_meaning.specs.Runs as m
 use Rattle.c_meaning.specs.Runs.{start, run_from, answer_of, CRun}
 use Rattle.c_meaning.proofs.Later.{run_on, final_stays}
+use Rattle.p2c_outside.specs.Counts.{Rose}
 use Rattle.p2c_outside.specs.Told as o
 use Rattle.p2c_outside.specs.Told.{Gains, IsEmpty}
 use Rattle.held_bytes.specs.Written.{GainsPart}
@@ -195,6 +196,15 @@ faults_of k a taken taken' put put' t p = record {
   input = λ e. t.some (is_input k a e);
   no_output = λ n. p.none (λ e. n (ap (ended_by k) e));
   output = λ e. p.some (is_output k a e);
+}
+
+pub spent_faults : {P Q : Type 0} (taken taken' put put1 put' : ℕ) (r : e.Ended) → taken' ≡ taken → put1 ≡ put → (r ≢ v.OutputFault → (r ≡ v.Spent) × P × (put' ≡ put1)) → (r ≡ v.OutputFault → Q × Rose put1 put')
+    → RunFaults taken taken' put put' r
+spent_faults taken taken' put put1 put' r same held whole part = record {
+  no_input = λ n. same;
+  input = λ i. absurd (let n : r ≢ v.OutputFault = (λ o. absurd cc) in let spent = (whole n).0 in cc);
+  no_output = λ n. (whole n).2 ∙ held;
+  output = λ o. subst (λ (p : ℕ). Rose p put') held (part o).1;
 }
 
 -- where the steps are done, what is held is put

@@ -198,3 +198,8 @@ pub record RunFaults (taken taken' put put' : ℕ) (result : e.Ended) : Type 0 w
   pub input : result ≡ v.InputFault → Rose taken taken'
   pub no_output : result ≢ v.OutputFault → put' ≡ put
   pub output : result ≡ v.OutputFault → Rose put put'
+
+-- a status is one of 0..209
+abbrev pub HasStatus : e.Ended → Type 0
+HasStatus (v.Status status calls) = status < 210
+HasStatus _ = Unit {0}

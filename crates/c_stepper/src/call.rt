@@ -5,6 +5,7 @@ ghost use Rattle.c_meaning.specs.Evaluate as e;
 ghost use Rattle.c_meaning.specs.Steps as m;
 ghost use Rattle.c_evaluation.specs.Halts.{said, Tells};
 ghost use Rattle.c_evaluation.specs.Scopes.{view_at, site_of, HasRoom};
+ghost use Rattle.c_tree.specs.types.View.{base_of as written_base};
 ghost use Rattle.c_evaluation.specs.Types.{object_of, base_of, place_type_of};
 ghost use Rattle.c_evaluation.specs.Values.{value_of as worth, values_of, content_of, now_of};
 ghost use Rattle.c_stepper.specs.Runners.{target_of as meant};
@@ -16,6 +17,7 @@ use c_cells::fresh::copy_type;
 use c_cells::memory::{Block, Memory};
 use c_evaluation::evaluate::{place_of, value_of};
 use c_evaluation::halt::Halt;
+use c_evaluation::lookup::function_place;
 use c_evaluation::place::Site;
 use c_evaluation::read::{name_value, root_number};
 use c_evaluation::scope::Scope;
@@ -25,9 +27,9 @@ use c_evaluation::value::{Content, Value, held, type_of};
 use c_meaning::StuckKind;
 use c_tree::Name;
 use c_tree::expr::{CExpr, CPlace};
-use c_tree::program::{CFunction, CVariable};
+use c_tree::program::CVariable;
 use c_tree::statement::CCallee;
-use c_tree::types::CType;
+use c_tree::types::{CBaseType, CType};
 use std::alloc::{AllocError, Global};
 use tree_lists::Items;
 
@@ -43,16 +45,11 @@ pub struct Entry {
 // ---- the callee
 
 /// The place of the first function with a name.
-fn function_at(functions: &[CFunction], name: &[u8]) -> Option<usize>
-    ensures value { result ≡ function_from 0 name.now functions.now }
-    ensures within { IfSome result (λ i. i < length functions.now) }
+fn function_at(scope: &Scope, name: &Name) -> Option<usize>
+    ensures value { result ≡ function_from 0 name.now scope.now.program.now.functions }
+    ensures within { IfSome result (λ i. i < length scope.now.program.now.functions) }
 {
-    for (i, function) in functions.iter().enumerate() {
-        if name == function.name.as_slice() {
-            return Some(i);
-        }
-    }
-    None
+    function_place(scope, name)
 }
 
 /// The value that is called.
@@ -119,12 +116,12 @@ fn is_named(of: Object) -> bool
 
 /// The function with the name that a value points to.
 #[tactic(auto, using(crate::proofs::Calling::no_function, crate::proofs::Calling::some_function))]
-fn function_called(functions: &[CFunction], value: &Value) -> Result<Option<usize>, Halt>
-    ensures value { Tells (λ o. o) result (function_called functions.now (worth value.now)) }
-    ensures within { IfOk result (λ o. IfSome o (λ n. n < length functions.now)) }
+fn function_called(scope: &Scope, value: &Value) -> Result<Option<usize>, Halt>
+    ensures value { Tells (λ o. o) result (function_called scope.now.program.now.functions (worth value.now)) }
+    ensures within { IfOk result (λ o. IfSome o (λ n. n < length scope.now.program.now.functions)) }
 {
     match called_name(value) {
-        Ok(name) => Ok(function_at(functions, name.as_slice())),
+        Ok(name) => Ok(function_at(scope, name)),
         Err(kind) => Err(Halt::Stuck(kind)),
     }
 }
@@ -136,20 +133,21 @@ fn callee_function<'a>(scope: &Scope<'a>, who: &'a CCallee) -> Result<Option<usi
     ensures within { IfOk result (λ o. IfSome o (λ n. n < length scope.now.program.now.functions)) }
 {
     let value = callee_value(scope, who)?;
-    function_called(scope.program.functions.as_slice(), &value)
+    function_called(scope, &value)
 }
 
 // ---- the place for the answer
 
-fn base_type(alloc: Global, base: Base) -> Result<CType, AllocError>
-    ensures { IfOk result (λ of. of ≡ base_of base.entry) }
+fn owned_base(alloc: Global, base: Base) -> Result<CBaseType, AllocError>
+    ensures { IfOk result (λ owned. written_base owned ≡ base_of base.entry) }
 {
     match base {
-        Base::Int => Ok(CType::int()),
-        Base::Word => Ok(CType::word()),
-        Base::VoidPointer => Ok(CType::void_pointer()),
-        Base::Struct(name) => Ok(CType::structure(copied(alloc, name)?)),
-        Base::Written(of) => copy_type(alloc, of),
+        Base::Int => Ok(CBaseType::Int),
+        Base::Word => Ok(CBaseType::Word),
+        Base::Byte => Ok(CBaseType::Byte),
+        Base::VoidPointer => Ok(CBaseType::VoidPointer),
+        Base::Struct(name) => Ok(CBaseType::Struct(copied(alloc, name)?)),
+        Base::Named(name) => Ok(CBaseType::Named(copied(alloc, name)?)),
     }
 }
 
@@ -157,11 +155,10 @@ fn base_type(alloc: Global, base: Base) -> Result<CType, AllocError>
 fn owned_type(alloc: Global, of: Object) -> Result<CType, AllocError>
     ensures { IfOk result (λ owned. owned ≡ object_of of.entry) }
 {
-    let mut made = base_type(alloc, of.base)?;
-    for i in 0..of.pointers {
-        made = CType::pointer(alloc, made)?;
-    }
-    Ok(made)
+    Ok(CType {
+        base: owned_base(alloc, of.base)?,
+        stars: of.pointers,
+    })
 }
 
 /// A place of a block, for an answer.

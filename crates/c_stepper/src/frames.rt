@@ -11,6 +11,7 @@ ghost use Rattle.c_meaning.specs.Steps as m;
 ghost use Rattle.c_meaning.specs.Steps.{Onward, do_statement, names_from};
 ghost use Rattle.c_evaluation.specs.Halts.{Tells};
 ghost use Rattle.c_evaluation.specs.Types.{object_of};
+ghost use Rattle.name_tables.specs.Tables.{Fits};
 ghost use Rattle.c_stepper.specs.Spots.{todo_at};
 ghost use Rattle.c_stepper.specs.Runners.{state_of, runner_view, body_at, frame_of, frames_of, target_of as meant, parts_at, variables_at, FitsFrame, FitsFrames, Acts, name_at};
 ghost use Rattle.c_stepper.specs.Calls.{IsEntry, entered_of, entered, entered_state, entry_done};
@@ -29,6 +30,7 @@ use c_evaluation::types::Object;
 use c_tree::expr::{CExpr, CPlace};
 use c_tree::program::CProgram;
 use c_tree::statement::CCallee;
+use name_tables::Tables;
 use std::alloc::{AllocError, Global};
 use std::mem;
 
@@ -86,6 +88,7 @@ impl Runner {
         ensures state { IfOk result (λ it. (input : List ℕ) → state_of program.now it input [] [] ≡ start program.now input) }
         ensures fits { IfOk result (FitsFrames program.now) }
     {
+        let tables = Tables::new(alloc, program)?;
         let mut memory = Memory::new(alloc);
         let declared = program.declarations.as_slice();
         let base = push_fresh(
@@ -108,6 +111,7 @@ impl Runner {
             frame,
             below: Vec::new(alloc),
             memory,
+            tables,
             alloc,
         })
     }
@@ -120,7 +124,8 @@ impl Runner {
         who: &'a CCallee,
         arguments: &'a [CExpr],
     ) -> Result<Entry, Halt>
-        requires { FitsFrame program.now self.now.frame }
+        requires fits { FitsFrame program.now self.now.frame }
+        requires tables { Fits program.now self.now.tables }
         ensures entry { IfOk result (IsEntry program.now) }
         ensures value { Tells entered_of result (entered program.now (runner_view program.now self.now) into.now who.now arguments.now) }
     {
@@ -140,6 +145,7 @@ impl Runner {
         ensures made { OnOk result (self.new.memory ≡ self.old.memory ++ (parameters ++ fresh_blocks false program.now.declarations (parts_at program.now (Some function)).locals)) }
         ensures fits { OnOk result (length self.old.memory + (length (parts_at program.now (Some function)).parameters + length (parts_at program.now (Some function)).locals) < 2 ^ 63) }
         ensures rest { (self.new.frame ≡ self.old.frame) × (self.new.below.items ≡ self.old.below.items) }
+        ensures tables { self.new.tables ≡ self.old.tables }
     {
         let base = self.memory.made();
         let text = written_text(program, Some(function));
@@ -207,7 +213,8 @@ impl Runner {
         program: &'p CProgram,
         e: &'p Option<CExpr>,
     ) -> Result<Option<Given<'p>>, Halt>
-        requires { FitsFrame program.now self.now.frame }
+        requires fits { FitsFrame program.now self.now.frame }
+        requires tables { Fits program.now self.now.tables }
         ensures { Tells (option_map given_of) result (m.returned (runner_view program.now self.now) (parts_at program.now self.now.frame.function).result e.now) }
     {
         let of = result_of(program, self.frame.function);
@@ -217,7 +224,8 @@ impl Runner {
 
     /// The store of an answer.
     fn answer(&self, program: &CProgram, answer: &Option<Given>) -> Result<Option<Store>, Halt>
-        requires { FitsFrame program.now self.now.frame }
+        requires fits { FitsFrame program.now self.now.frame }
+        requires tables { Fits program.now self.now.tables }
         ensures { (blocks : Blocks) → Answers blocks result (m.answered program.now.declarations blocks (meant self.now.frame.target) (option_map given_of answer.now)) }
     {
         let scope = self.scope(program);
@@ -245,10 +253,12 @@ impl Runner {
         answer: &Option<Given>,
     ) -> Result<Done, Halt>
         requires fits { FitsFrame program.now self.old.frame }
+        requires tables { Fits program.now self.old.tables }
         ensures act { (input output calls : List ℕ) → Acts program.now self.new input output calls result
             (m.leave_to program.now (state_of program.now self.old input output calls) (frame_of program.now frame ∷ frames_of program.now self.old.below.items []) (option_map given_of answer.now)) }
         ensures frame { OnOk result (self.new.frame ≡ frame) }
         ensures below { self.new.below.items ≡ self.old.below.items }
+        ensures tables { self.new.tables ≡ self.old.tables }
     {
         let store = self.answer(program, answer)?;
         self.forget_frame(program);
@@ -266,6 +276,7 @@ impl Runner {
     }
 
     /// The end of the function that runs.
+    #[tactic(auto, using(crate::proofs::Stepping::tables_fit))]
     pub fn leave(&mut self, program: &CProgram, answer: &Option<Given>) -> Result<Done, Halt>
         requires fits { FitsFrames program.now self.old }
         ensures act { (input output calls : List ℕ) → Acts program.now self.new input output calls result

@@ -1,12 +1,12 @@
 //! A machine that runs a program.
-ghost use Rattle.std.specs.Prelude.{◌≡◌, ◌≢◌, ◌<◌, ◌≤◌, ◌⊎◌, ◌+◌, ◌++◌, ◌∷◌, ℕ, Option, List, [], Err, Ok, IfOk, Some, None, true, false, length};
+ghost use Rattle.std.specs.Prelude.{◌≡◌, ◌≢◌, ◌<◌, ◌≤◌, ◌⊎◌, ◌+◌, ◌^◌, ◌++◌, ◌∷◌, ℕ, Option, List, [], Err, Ok, IfOk, Some, None, true, false, length};
 ghost use Rattle.c_meaning.specs.Steps.{Next, CStep};
 ghost use Rattle.p2c_outside.specs.Counts.{Rose};
 ghost use Rattle.p2c_outside.specs.Told.{Gains, IsEmpty};
 ghost use Rattle.held_bytes.specs.Written.{GainsPart};
 ghost use Rattle.held_bytes.specs.Held.{bytes_in, IsDry};
 ghost use Rattle.c_stepper.specs.Runners.{FitsFrames, IsSettled, reads_here, Acts};
-ghost use Rattle.c_stepper.specs.Machines.{stood, IsFor, Begins, Steps, Takes, Closes, Writes, IsOver, SameBut, PutFaults, TakeFaults, RunFaults, Ran, TakesFew, ended_by};
+ghost use Rattle.c_stepper.specs.Machines.{stood, IsFor, Begins, Steps, Takes, Closes, Writes, IsOver, SameBut, PutFaults, TakeFaults, RunFaults, Ran, TakesFew, HasStatus, ended_by};
 
 use crate::runner::{Done, Runner};
 use c_evaluation::halt::Halt;
@@ -156,7 +156,7 @@ impl Machine {
     /// A step was taken.
     fn after<O: Sink>(&mut self, done: Done, out: &mut O) -> Stepped
         requires counted { self.old.calls ≤ self.old.taken }
-        requires few { self.old.taken < 1000000000000000000 }
+        requires few { self.old.taken + 1 < 2 ^ 64 }
         requires held { length self.old.output.bytes.items < 4096 }
         ensures step { (c : CProgram) (left output calls : List ℕ) (next : Next) → Acts c self.old.runner (bytes_in self.old.input ++ left) output calls (Ok done) next → length calls ≡ self.old.calls
             → Steps c self.old.output.bytes.items self.old.calls self.new (Some left) (O.written out.old) (O.written out.new) output calls result next }
@@ -186,7 +186,7 @@ impl Machine {
         requires going { self.old.over ≡ None }
         requires settled { IsSettled program.now self.old.runner.frame }
         requires other { reads_here program.now self.old.runner.frame ≡ false }
-        requires few { self.old.taken < 1000000000000000000 }
+        requires few { self.old.taken + 1 < 2 ^ 64 }
         ensures step { (left output calls : List ℕ) → length calls ≡ self.old.calls
             → Steps program.now self.old.output.bytes.items self.old.calls self.new (Some left) (O.written out.old) (O.written out.new) output calls result (CStep program.now (stood program.now self.old left output calls)) }
         ensures is_for { IsFor program.now self.new }
@@ -211,7 +211,7 @@ impl Machine {
         requires going { self.old.over ≡ None }
         requires settled { IsSettled program.now self.old.runner.frame }
         requires reads { reads_here program.now self.old.runner.frame ≡ true }
-        requires few { self.old.taken < 1000000000000000000 }
+        requires few { self.old.taken + 1 < 2 ^ 64 }
         ensures step { (left output calls : List ℕ) → (bytes_in self.old.input ≡ [] → left ≡ []) → length calls ≡ self.old.calls
             → Steps program.now self.old.output.bytes.items self.old.calls self.new (Some left) (O.written out.old) (O.written out.new) output calls result (CStep program.now (stood program.now self.old left output calls)) }
         ensures is_for { IsFor program.now self.new }
@@ -244,7 +244,7 @@ impl Machine {
         requires going { self.old.over ≡ None }
         requires settled { IsSettled program.now self.old.runner.frame }
         requires reads { reads_here program.now self.old.runner.frame ≡ true }
-        requires few { self.old.taken < 1000000000000000000 }
+        requires few { self.old.taken + 1 < 2 ^ 64 }
         requires dry { IsDry self.old.input }
         ensures takes { Takes program.now self.old self.new (I.left input.old) (I.left input.new) (O.written out.old) (O.written out.new) result }
         ensures is_for { IsFor program.now self.new }
@@ -280,7 +280,7 @@ impl Machine {
         requires going { self.old.over ≡ None }
         requires settled { IsSettled program.now self.old.runner.frame }
         requires reads { reads_here program.now self.old.runner.frame ≡ true }
-        requires few { self.old.taken < 1000000000000000000 }
+        requires few { self.old.taken + 1 < 2 ^ 64 }
         requires end { self.old.input.over ≡ true → IsEmpty (I.left input.old) }
         ensures takes { Takes program.now self.old self.new (I.left input.old) (I.left input.new) (O.written out.old) (O.written out.new) result }
         ensures is_for { IsFor program.now self.new }
@@ -307,7 +307,7 @@ impl Machine {
         out: &mut O,
     ) -> Stepped
         requires is_for { IsFor program.now self.old }
-        requires few { self.old.taken < 1000000000000000000 }
+        requires few { self.old.taken + 1 < 2 ^ 64 }
         requires end { self.old.input.over ≡ true → IsEmpty (I.left input.old) }
         ensures step { self.old.over ≡ None → (left output calls : List ℕ) → I.left input.old ≡ Some left → length calls ≡ self.old.calls
             → Steps program.now self.old.output.bytes.items self.old.calls self.new (I.left input.new) (O.written out.old) (O.written out.new) output calls result (CStep program.now (stood program.now self.old left output calls)) }
@@ -359,12 +359,12 @@ fn run_from<I: Source, O: Sink>(
     input: &mut I,
     out: &mut O,
 ) -> Ended
-    requires few { steps ≤ 1000000000000000000 }
     requires is_for { IsFor program.now machine }
     requires begins { Begins program.now machine }
     ensures ran { (bytes : List ℕ) → I.left input.old ≡ Some bytes → Ran program.now bytes (I.left input.new) steps (O.written out.old) (O.written out.new) result }
     ensures ahead { (bytes : List ℕ) → I.left input.old ≡ Some bytes → TakesFew program.now bytes (I.left input.new) steps }
     ensures faults { RunFaults (I.faults input.old) (I.faults input.new) (O.faults out.old) (O.faults out.new) result }
+    ensures status { HasStatus result }
 {
     let mut machine = machine;
     let mut left = steps;
@@ -387,10 +387,10 @@ pub fn run<I: Source, O: Sink>(
     input: &mut I,
     out: &mut O,
 ) -> Ended
-    requires { steps ≤ 1000000000000000000 }
     ensures ran { (bytes : List ℕ) → I.left input.old ≡ Some bytes → Ran program.now bytes (I.left input.new) steps (O.written out.old) (O.written out.new) result }
     ensures ahead { (bytes : List ℕ) → I.left input.old ≡ Some bytes → TakesFew program.now bytes (I.left input.new) steps }
     ensures faults { RunFaults (I.faults input.old) (I.faults input.new) (O.faults out.old) (O.faults out.new) result }
+    ensures status { HasStatus result }
 {
     match Machine::new(alloc, program) {
         Ok(machine) => run_from(machine, program, steps, input, out),

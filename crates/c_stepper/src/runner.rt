@@ -8,6 +8,7 @@ ghost use Rattle.c_meaning.specs.Steps.{do_statement, after_byte};
 ghost use Rattle.c_evaluation.specs.Stores.{Stores, Finds, byte_stored, address_stored, without_one, Frees, freed_of};
 ghost use Rattle.c_stepper.specs.Spots.{list_in, todo_at};
 ghost use Rattle.c_evaluation.specs.Scopes.{view_at, HasRoom};
+ghost use Rattle.name_tables.specs.Tables.{Fits};
 ghost use Rattle.c_stepper.specs.Runners.{state_of, runner_view, body_at, text_at, text_of, first_of, FitsFrame, Stays, Acts};
 
 use crate::label::find_in;
@@ -23,6 +24,7 @@ use c_tree::expr::{CExpr, CPlace};
 use c_tree::program::{CProgram, CVariable};
 use c_tree::statement::CStatement;
 use c_tree::types::CType;
+use name_tables::Tables;
 use std::alloc::Global;
 
 /// What a statement did beside the change of the frames and the memory.
@@ -59,6 +61,7 @@ pub struct Runner {
     pub frame: Frame,
     pub below: Vec<Frame>,
     pub memory: Memory,
+    pub tables: Tables,
     pub alloc: Global,
 }
 
@@ -97,7 +100,8 @@ pub fn written_text<'a>(program: &'a CProgram, function: Option<usize>) -> Text<
 
 impl Runner {
     pub fn scope<'a>(&'a self, program: &'a CProgram) -> Scope<'a>
-        requires { FitsFrame program.now self.now.frame }
+        requires fits { FitsFrame program.now self.now.frame }
+        requires tables { Fits program.now self.now.tables }
         ensures view { view_at result ≡ runner_view program.now self.now }
         ensures room { HasRoom result }
         ensures memory { result.memory.now ≡ self.now.memory }
@@ -106,6 +110,7 @@ impl Runner {
         let text = written_text(program, self.frame.function);
         Scope {
             program,
+            tables: &self.tables,
             reach: self.frame.reach,
             parameters: text.parameters,
             locals: text.locals,
@@ -122,7 +127,8 @@ impl Runner {
         place: &'a CPlace,
         e: &'a CExpr,
     ) -> Result<Store, Halt>
-        requires { FitsFrame program.now self.now.frame }
+        requires fits { FitsFrame program.now self.now.frame }
+        requires tables { Fits program.now self.now.tables }
         ensures { Stores self.now.memory result (m.assign (runner_view program.now self.now) place.now e.now) }
     {
         let scope = self.scope(program);
@@ -131,7 +137,8 @@ impl Runner {
 
     /// Whether the place of `place = getchar();` is there.
     pub fn finds(&self, program: &CProgram, place: &CPlace) -> Result<(), Halt>
-        requires { FitsFrame program.now self.now.frame }
+        requires fits { FitsFrame program.now self.now.frame }
+        requires tables { Fits program.now self.now.tables }
         ensures { Finds result (v.place (runner_view program.now self.now) place.now) }
     {
         let scope = self.scope(program);
@@ -145,7 +152,8 @@ impl Runner {
         place: &'a CPlace,
         byte: Option<u8>,
     ) -> Result<Store, Halt>
-        requires { FitsFrame program.now self.now.frame }
+        requires fits { FitsFrame program.now self.now.frame }
+        requires tables { Fits program.now self.now.tables }
         ensures { Stores self.now.memory result (byte_stored (runner_view program.now self.now) place.now byte) }
     {
         let scope = self.scope(program);
@@ -154,6 +162,7 @@ impl Runner {
 
     pub fn assign(&mut self, program: &CProgram, place: &CPlace, e: &CExpr) -> Result<Done, Halt>
         requires fits { FitsFrame program.now self.old.frame }
+        requires tables { Fits program.now self.old.tables }
         requires small { self.old.frame.spot.at + 1 < 2 ^ 64 }
         ensures act { (input output calls : List ℕ) → Acts program.now self.new input output calls result
             (do_statement program.now (runner_view program.now self.old) (state_of program.now self.old input output calls)
@@ -173,6 +182,7 @@ impl Runner {
         byte: Option<u8>,
     ) -> Result<Done, Halt>
         requires fits { FitsFrame program.now self.old.frame }
+        requires tables { Fits program.now self.old.tables }
         requires small { self.old.frame.spot.at + 1 < 2 ^ 64 }
         ensures act { (input output calls : List ℕ) → byte ≡ first_of input → Acts program.now self.new (after_byte input) output calls result
             (do_statement program.now (runner_view program.now self.old) (state_of program.now self.old input output calls)
@@ -188,6 +198,7 @@ impl Runner {
 
     pub fn put_char(&mut self, program: &CProgram, e: &CExpr) -> Result<Done, Halt>
         requires fits { FitsFrame program.now self.old.frame }
+        requires tables { Fits program.now self.old.tables }
         requires small { self.old.frame.spot.at + 1 < 2 ^ 64 }
         ensures act { (input output calls : List ℕ) → Acts program.now self.new input output calls result
             (do_statement program.now (runner_view program.now self.old) (state_of program.now self.old input output calls)
@@ -206,6 +217,7 @@ impl Runner {
         body: &[CStatement],
     ) -> Result<Done, Halt>
         requires fits { FitsFrame program.now self.old.frame }
+        requires tables { Fits program.now self.old.tables }
         requires small { self.old.frame.spot.at + 1 < 2 ^ 64 }
         requires here { slice_get (list_in (body_at program.now self.old.frame) self.old.frame.spot.outer.items) self.old.frame.spot.at ≡ Some (t.If e.now (body_of body.now)) }
         ensures act { (input output calls : List ℕ) → Acts program.now self.new input output calls result
@@ -230,6 +242,7 @@ impl Runner {
         other: &[CStatement],
     ) -> Result<Done, Halt>
         requires fits { FitsFrame program.now self.old.frame }
+        requires tables { Fits program.now self.old.tables }
         requires here { slice_get (list_in (body_at program.now self.old.frame) self.old.frame.spot.outer.items) self.old.frame.spot.at ≡ Some (t.IfElse e.now (body_of body.now) (body_of other.now)) }
         ensures act { (input output calls : List ℕ) → Acts program.now self.new input output calls result
             (do_statement program.now (runner_view program.now self.old) (state_of program.now self.old input output calls)
@@ -243,6 +256,7 @@ impl Runner {
 
     pub fn turn(&mut self, program: &CProgram, e: &CExpr, body: &[CStatement]) -> Result<Done, Halt>
         requires fits { FitsFrame program.now self.old.frame }
+        requires tables { Fits program.now self.old.tables }
         requires small { self.old.frame.spot.at + 1 < 2 ^ 64 }
         requires here { slice_get (list_in (body_at program.now self.old.frame) self.old.frame.spot.outer.items) self.old.frame.spot.at ≡ Some (t.While e.now (body_of body.now)) }
         ensures act { (input output calls : List ℕ) → Acts program.now self.new input output calls result
@@ -297,7 +311,8 @@ impl Runner {
         place: &'a CPlace,
         of: &'a CType,
     ) -> Result<Store, Halt>
-        requires { FitsFrame program.now self.now.frame }
+        requires fits { FitsFrame program.now self.now.frame }
+        requires tables { Fits program.now self.now.tables }
         ensures { Stores self.now.memory result (address_stored (runner_view program.now self.now) self.now.memory place.now of.now) }
     {
         let scope = self.scope(program);
@@ -306,6 +321,7 @@ impl Runner {
 
     pub fn malloc(&mut self, program: &CProgram, place: &CPlace, of: &CType) -> Result<Done, Halt>
         requires fits { FitsFrame program.now self.old.frame }
+        requires tables { Fits program.now self.old.tables }
         requires small { self.old.frame.spot.at + 1 < 2 ^ 64 }
         ensures act { (input output calls : List ℕ) → Acts program.now self.new input output calls result
             (do_statement program.now (runner_view program.now self.old) (state_of program.now self.old input output calls)
@@ -324,7 +340,8 @@ impl Runner {
 
     /// The number of the block that `free(e);` makes be gone, or none where nothing is freed.
     fn freeing<'a>(&'a self, program: &'a CProgram, e: &'a CExpr) -> Result<Option<usize>, Halt>
-        requires { FitsFrame program.now self.now.frame }
+        requires fits { FitsFrame program.now self.now.frame }
+        requires tables { Fits program.now self.now.tables }
         ensures { Frees self.now.memory result (freed_of (runner_view program.now self.now) self.now.memory e.now) }
     {
         let scope = self.scope(program);
@@ -333,6 +350,7 @@ impl Runner {
 
     pub fn free(&mut self, program: &CProgram, e: &CExpr) -> Result<Done, Halt>
         requires fits { FitsFrame program.now self.old.frame }
+        requires tables { Fits program.now self.old.tables }
         requires small { self.old.frame.spot.at + 1 < 2 ^ 64 }
         ensures act { (input output calls : List ℕ) → Acts program.now self.new input output calls result
             (do_statement program.now (runner_view program.now self.old) (state_of program.now self.old input output calls)

@@ -1,3 +1,5 @@
 pub mod Code
+pub mod Falls
+pub mod Sizes
 pub mod Tree
 pub mod View

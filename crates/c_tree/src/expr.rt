@@ -1,28 +1,36 @@
 //! Expressions and places.
 ghost use Rattle.std.specs.Prelude.{◌≡◌, IfOk};
 ghost use Rattle.c_tree.specs.Tree.{Read, Number, WordNumber, Null, Address, Unary, Binary, Cast, Variable, Pointee, Member, Index};
+ghost use Rattle.c_tree.specs.expressions.View.{select};
 
 use crate::Name;
 use crate::operators::{CBinary, CCast, CUnary};
 use std::alloc::{AllocError, Global};
 use std::marker::Model;
-use tree_lists::Boxed;
+use tree_lists::{Boxed, Items};
 
-/// What a value is read from and written to.
+/// A name, and `(* pointer)`.
+#[cycle(expr)]
+#[derive(Debug, Drop)]
+pub enum CBasePlace {
+    Variable(Name),
+    Pointee(Boxed<CExpr>),
+}
+
+/// `.member` and `[index]`.
+#[cycle(expr)]
+#[derive(Debug, Drop)]
+pub enum CSelector {
+    Member(Name),
+    Index(CExpr),
+}
+
+/// What a value is read from and written to: what selectors, one after another, select.
 #[cycle(expr)]
 #[derive(Debug, Drop)]
 pub struct CPlace {
-    pub node: CPlaceNode,
-}
-
-/// A name, `(* pointer)`, `place.member` and `place[index]`.
-#[cycle(expr)]
-#[derive(Debug, Drop)]
-pub enum CPlaceNode {
-    Variable(Name),
-    Pointee(Boxed<CExpr>),
-    Member(Boxed<CPlace>, Name),
-    Index(Boxed<CPlace>, Boxed<CExpr>),
+    pub base: CBasePlace,
+    pub selectors: Items<CSelector>,
 }
 
 #[cycle(expr)]
@@ -54,15 +62,15 @@ impl Model for CPlace {
 
     ghost coded = { coded_place };
 
-    ghost use Rattle.c_tree.specs.expressions.View.{place_of};
+    ghost use Rattle.c_tree.specs.expressions.View.{base_place, selected};
 
-    ghost view = { λ a. place_of a.node };
+    ghost view = { λ a. selected (base_place a.base) a.selectors };
 
     ghost size = { place_size };
 
-    ghost use Rattle.std.proofs.Common.{arith};
+    ghost use Rattle.c_tree.specs.expressions.Falls.{place_falls};
 
-    ghost size_decreases = { λ a h. Prim.grind arith };
+    ghost size_decreases = { λ a h. place_falls a };
 }
 
 impl Model for CExpr {
@@ -85,11 +93,12 @@ impl Model for CExpr {
 }
 
 impl CPlace {
-    pub fn variable(name: Name) -> CPlace
+    pub fn variable(alloc: Global, name: Name) -> CPlace
         ensures { result ≡ Variable name }
     {
         CPlace {
-            node: CPlaceNode::Variable(name),
+            base: CBasePlace::Variable(name),
+            selectors: Items::new(alloc),
         }
     }
 
@@ -97,26 +106,33 @@ impl CPlace {
         ensures { IfOk result (λ place. place ≡ Pointee pointer) }
     {
         Ok(CPlace {
-            node: CPlaceNode::Pointee(Boxed::new(alloc, pointer)?),
+            base: CBasePlace::Pointee(Boxed::new(alloc, pointer)?),
+            selectors: Items::new(alloc),
         })
     }
 
-    pub fn member(alloc: Global, place: CPlace, name: Name) -> Result<CPlace, AllocError>
+    #[tactic(auto, using(crate::specs::expressions::View::selected_more))]
+    fn selected(place: CPlace, selector: CSelector) -> Result<CPlace, AllocError>
+        ensures { IfOk result (λ made. made ≡ select place selector) }
+    {
+        let CPlace {
+            base,
+            mut selectors,
+        } = place;
+        selectors.push(selector)?;
+        Ok(CPlace { base, selectors })
+    }
+
+    pub fn member(place: CPlace, name: Name) -> Result<CPlace, AllocError>
         ensures { IfOk result (λ made. made ≡ Member place name) }
     {
-        Ok(CPlace {
-            node: CPlaceNode::Member(Boxed::new(alloc, place)?, name),
-        })
+        CPlace::selected(place, CSelector::Member(name))
     }
 
-    pub fn index(alloc: Global, place: CPlace, index: CExpr) -> Result<CPlace, AllocError>
+    pub fn index(place: CPlace, index: CExpr) -> Result<CPlace, AllocError>
         ensures { IfOk result (λ made. made ≡ Index place index) }
     {
-        let place = Boxed::new(alloc, place)?;
-        let index = Boxed::new(alloc, index)?;
-        Ok(CPlace {
-            node: CPlaceNode::Index(place, index),
-        })
+        CPlace::selected(place, CSelector::Index(index))
     }
 }
 

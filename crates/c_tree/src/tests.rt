@@ -3,7 +3,7 @@ use crate::expr::{CExpr, CPlace};
 use crate::operators::{CBinary, CCast, CUnary};
 use crate::program::{CDeclaration, CFunction, CMain, CMember, CProgram, CStruct, CVariable};
 use crate::statement::{CCallee, CStatement, CStatementNode};
-use crate::types::{CType, CTypeNode};
+use crate::types::{CBaseType, CType};
 use std::alloc::{AllocError, Global};
 use std::test::Fail;
 use tree_lists::Items;
@@ -13,7 +13,7 @@ fn name(alloc: Global, text: &str) -> Result<Name, AllocError> {
 }
 
 fn variable(alloc: Global, text: &str) -> Result<CPlace, AllocError> {
-    Ok(CPlace::variable(name(alloc, text)?))
+    Ok(CPlace::variable(alloc, name(alloc, text)?))
 }
 
 fn value(alloc: Global, text: &str) -> Result<CExpr, AllocError> {
@@ -23,8 +23,8 @@ fn value(alloc: Global, text: &str) -> Result<CExpr, AllocError> {
 /// `(* p).cells[INT64_C(2)]`.
 fn cell(alloc: Global) -> Result<CPlace, AllocError> {
     let target = CPlace::pointee(alloc, value(alloc, "p")?)?;
-    let cells = CPlace::member(alloc, target, name(alloc, "cells")?)?;
-    CPlace::index(alloc, cells, CExpr::number(2))
+    let cells = CPlace::member(target, name(alloc, "cells")?)?;
+    CPlace::index(cells, CExpr::number(2))
 }
 
 /// `((int64_t) (~ UINT64_C(18446744073709551615)))`.
@@ -123,14 +123,12 @@ fn one_statement_of_each_kind_is_built(rt: HostRuntime) -> Result<(), Fail> {
 #[test]
 fn types_are_built(rt: HostRuntime) -> Result<(), Fail> {
     let alloc = rt.alloc();
-    let pointer = CType::pointer(alloc, CType::void_pointer())?;
-    let CTypeNode::Pointer(of) = &pointer.node else {
-        return Err("no pointer".into());
-    };
-    assert!(rt; matches!(of.get().node, CTypeNode::VoidPointer));
-    assert!(rt; matches!(CType::named(name(alloc, "t")?).node, CTypeNode::Named(_)));
-    assert!(rt; matches!(CType::word().node, CTypeNode::Word));
-    assert!(rt; matches!(CType::byte().node, CTypeNode::Byte));
+    let pointer = CType::pointer(CType::void_pointer())?;
+    assert_eq!(rt; pointer.stars, 1);
+    assert!(rt; matches!(pointer.base, CBaseType::VoidPointer));
+    assert!(rt; matches!(CType::named(name(alloc, "t")?).base, CBaseType::Named(_)));
+    assert!(rt; matches!(CType::word().base, CBaseType::Word));
+    assert!(rt; matches!(CType::byte().base, CBaseType::Byte));
     Ok(())
 }
 

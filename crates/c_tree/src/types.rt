@@ -3,48 +3,39 @@ ghost use Rattle.std.specs.Prelude.{◌≡◌, IfOk};
 ghost use Rattle.c_tree.specs.Tree.{Int, Word, Byte, Struct, Named, VoidPointer, Pointer};
 
 use crate::Name;
-use std::alloc::{AllocError, Global};
+use std::alloc::AllocError;
 use std::marker::Model;
-use tree_lists::Boxed;
 
-/// The type of a value.
-#[cycle(types)]
+/// What a type is before its stars: `int64_t`, `uint64_t`, `unsigned char`, `struct name`, a
+/// typedef's name and `void *`.
 #[derive(Debug, Drop)]
-pub struct CType {
-    pub node: CTypeNode,
-}
-
-/// `int64_t`, `uint64_t`, `unsigned char`, `struct name`, a typedef's name, `void *`, and a pointer
-/// to another of these.
-#[cycle(types)]
-#[derive(Debug, Drop)]
-pub enum CTypeNode {
+pub enum CBaseType {
     Int,
     Word,
     Byte,
     Struct(Name),
     Named(Name),
     VoidPointer,
-    Pointer(Boxed<CType>),
+}
+
+/// The type of a value: so many stars after another type.
+#[derive(Debug, Drop)]
+pub struct CType {
+    pub base: CBaseType,
+    pub stars: usize,
 }
 
 impl Model for CType {
-    ghost use Rattle.c_tree.specs.types.Tree.{ObjectType, type_size};
+    ghost use Rattle.c_tree.specs.types.Tree.{ObjectType};
     ghost use Rattle.c_tree.specs.types.Code.{coded_type};
 
     ghost Value = { ObjectType };
 
     ghost coded = { coded_type };
 
-    ghost use Rattle.c_tree.specs.types.View.{type_of};
+    ghost use Rattle.c_tree.specs.types.View.{base_of, pointers};
 
-    ghost view = { λ a. type_of a.node };
-
-    ghost size = { type_size };
-
-    ghost use Rattle.std.proofs.Common.{arith};
-
-    ghost size_decreases = { λ a h. Prim.grind arith };
+    ghost view = { λ a. pointers a.stars (base_of a.base) };
 }
 
 impl CType {
@@ -52,7 +43,8 @@ impl CType {
         ensures { result ≡ Int }
     {
         CType {
-            node: CTypeNode::Int,
+            base: CBaseType::Int,
+            stars: 0,
         }
     }
 
@@ -60,7 +52,8 @@ impl CType {
         ensures { result ≡ Word }
     {
         CType {
-            node: CTypeNode::Word,
+            base: CBaseType::Word,
+            stars: 0,
         }
     }
 
@@ -68,7 +61,8 @@ impl CType {
         ensures { result ≡ Byte }
     {
         CType {
-            node: CTypeNode::Byte,
+            base: CBaseType::Byte,
+            stars: 0,
         }
     }
 
@@ -76,7 +70,8 @@ impl CType {
         ensures { result ≡ Struct name }
     {
         CType {
-            node: CTypeNode::Struct(name),
+            base: CBaseType::Struct(name),
+            stars: 0,
         }
     }
 
@@ -84,7 +79,8 @@ impl CType {
         ensures { result ≡ Named name }
     {
         CType {
-            node: CTypeNode::Named(name),
+            base: CBaseType::Named(name),
+            stars: 0,
         }
     }
 
@@ -92,15 +88,19 @@ impl CType {
         ensures { result ≡ VoidPointer }
     {
         CType {
-            node: CTypeNode::VoidPointer,
+            base: CBaseType::VoidPointer,
+            stars: 0,
         }
     }
 
-    pub fn pointer(alloc: Global, of: CType) -> Result<CType, AllocError>
+    /// Too many stars to count are want of memory.
+    pub fn pointer(of: CType) -> Result<CType, AllocError>
         ensures { IfOk result (λ made. made ≡ Pointer of) }
     {
-        Ok(CType {
-            node: CTypeNode::Pointer(Boxed::new(alloc, of)?),
-        })
+        let CType { base, stars } = of;
+        match stars.checked_add(1) {
+            Some(stars) => Ok(CType { base, stars }),
+            None => Err(AllocError),
+        }
     }
 }

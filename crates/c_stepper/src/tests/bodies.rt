@@ -25,8 +25,8 @@ fn target(alloc: Global) -> Result<CExpr, AllocError> {
 
 /// `q.b[index]`
 fn element_place(alloc: Global, index: u64) -> Result<CPlace, AllocError> {
-    let member = CPlace::member(alloc, place(alloc, "q")?, name(alloc, "b")?)?;
-    CPlace::index(alloc, member, n(index))
+    let member = CPlace::member(place(alloc, "q")?, name(alloc, "b")?)?;
+    CPlace::index(member, n(index))
 }
 
 /// `q.b[index] = 75; putchar(q.b[index]); return 0;`

@@ -19,7 +19,7 @@ pub fn name(alloc: Global, text: &str) -> Result<Name, AllocError> {
 }
 
 pub fn place(alloc: Global, text: &str) -> Result<CPlace, AllocError> {
-    Ok(CPlace::variable(name(alloc, text)?))
+    Ok(CPlace::variable(alloc, name(alloc, text)?))
 }
 
 pub fn get(alloc: Global, text: &str) -> Result<CExpr, AllocError> {
@@ -111,7 +111,7 @@ pub fn globals(alloc: Global) -> Result<Items<CVariable>, AllocError> {
 }
 
 pub fn structures(alloc: Global, list: Items<CVariable>) -> Result<Items<CVariable>, AllocError> {
-    let list = more(alloc, list, "p", CType::pointer(alloc, CType::int())?)?;
+    let list = more(alloc, list, "p", CType::pointer(CType::int())?)?;
     let list = more(alloc, list, "q", CType::structure(name(alloc, "s")?))?;
     more(alloc, list, "r", CType::named(name(alloc, "f")?))
 }
@@ -158,7 +158,7 @@ pub fn function(
 /// `int64_t *lost(void) { int64_t k; return &k; }`
 pub fn lost(alloc: Global) -> Result<CFunction, AllocError> {
     let address = CExpr::address(alloc, place(alloc, "k")?)?;
-    let of = CType::pointer(alloc, CType::int())?;
+    let of = CType::pointer(CType::int())?;
     Ok(CFunction {
         name: name(alloc, "lost")?,
         result: Some(of),

@@ -1,14 +1,20 @@
--- What a level of a type is seen as.
+-- What a type is seen as.
+use Rattle.std.specs.Prelude.{ℕ, zero, suc}
 use Rattle.c_tree.specs.types.Tree as tree
 use Rattle.c_tree.specs.types.Tree.{ObjectType}
-use Rattle.c_tree.specs.declared.types.CTypeNode.{CTypeNode}
-use Rattle.c_tree.specs.declared.types.CTypeNode.TheVariants as node
+use Rattle.c_tree.specs.declared.types.CBaseType.{CBaseType}
+use Rattle.c_tree.specs.declared.types.CBaseType.TheVariants as base
 
-abbrev pub type_of : CTypeNode → ObjectType
-type_of node.Int = tree.Int
-type_of node.Word = tree.Word
-type_of node.Byte = tree.Byte
-type_of (node.Struct name) = tree.Struct name
-type_of (node.Named name) = tree.Named name
-type_of node.VoidPointer = tree.VoidPointer
-type_of (node.Pointer of) = tree.Pointer of
+-- a type before its stars
+abbrev pub base_of : CBaseType → ObjectType
+base_of base.Int = tree.Int
+base_of base.Word = tree.Word
+base_of base.Byte = tree.Byte
+base_of (base.Struct name) = tree.Struct name
+base_of (base.Named name) = tree.Named name
+base_of base.VoidPointer = tree.VoidPointer
+
+-- a type with so many stars after it
+abbrev pub pointers : ℕ → ObjectType → ObjectType
+pointers zero of = of
+pointers (suc stars) of = tree.Pointer (pointers stars of)

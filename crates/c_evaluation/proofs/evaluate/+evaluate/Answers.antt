@@ -1,6 +1,9 @@
-use Rattle.std.proofs.Common.{◌≡◌, ◌∙◌, sym, ap, subst, Ok, Some, None}
+use Rattle.std.proofs.Common.{◌≡◌, ◌∙◌, sym, ap, subst, arith, Ok, Some, None}
 use Rattle.std.specs.Option.{option_map, option_copied}
 use Rattle.c_tree.specs.Tree as t
+use Rattle.c_tree.specs.Tree.{place_size}
+use Rattle.c_tree.specs.expressions.View.{base_place}
+use Rattle.c_tree.specs.expressions.Sizes.{selectors_size, selected_size}
 use Rattle.c_meaning.specs.Answer.{Got}
 use Rattle.c_meaning.specs.Values as w
 use Rattle.c_meaning.specs.Values.{int, word}
@@ -9,8 +12,10 @@ use Rattle.c_meaning.specs.Evaluate.{View, value, place}
 use Rattle.c_evaluation.specs.Halts.{Tells}
 use Rattle.c_evaluation.specs.Values.{value_of}
 use Rattle.c_evaluation.specs.Scopes.{view_at, site_of}
-use Rattle.c_evaluation.specs.Evaluations.{onto_member, onto_element, decision, name_in}
+use Rattle.c_evaluation.specs.Evaluations.{onto_element, onto_selector, onto_selectors, decision, name_in}
 use Rattle.c_evaluation.proofs.Evaluations.{exit, onward_with, after_first, joined_is, read_name, read_part}
+use Rattle.c_evaluation.proofs.Selected.{selected_place, none_selected, next_selected, first_of}
+use Rattle.c_evaluation.proofs.Signatures.{after}
 use Rattle.c_evaluation.proofs.evaluate.+evaluate.Goals as goal
 
 pub address_of-returns-in_err-site : goal.address_of-returns-in_err-site
@@ -61,23 +66,61 @@ pointee_of-returns t c =
     let view : View = view_at c.args.scope.now in
     onward_with site_of c.follow.result (m.value view c.args.a.now) (value_of c.in_ok-x.x) (m.follow view) c.in_ok-x.ensures c.follow.ensures
 
-pub place_of-returns-in_err-site-in-Member : goal.place_of-returns-in_err-site-in-Member
-unfolding value place
-place_of-returns-in_err-site-in-Member size c =
-    let view : View = view_at c.args.scope.now in
-    let of = c.get-in-Member.result.now in
-    let is : t.Member of c.in-Member.name ≡ c.args.place.now = cc in
-    let r = c.from_residual.result in
-    subst (λ p. Tells site_of r (m.place view p)) is (exit site_of site_of c.in_err-site-in-Member.field-0.0 r (m.place view of) (onto_member view c.in-Member.name) c.from_residual.ensures.1 c.in_err-site-in-Member.ensures)
+pub place_of-selected_site-requires : goal.place_of-selected_site-requires
+place_of-selected_site-requires t c =
+    (omega (arith, ap place_size c.place.view_is, ap selectors_size c.as_slice.ensures, selected_size (base_place c.place.inside.base) c.place.inside.selectors), c.requires)
 
-pub place_of-returns-in_ok-site-in-Member : goal.place_of-returns-in_ok-site-in-Member
-unfolding value place
-place_of-returns-in_ok-site-in-Member size c =
+pub place_of-returns-in_err-site : goal.place_of-returns-in_err-site
+place_of-returns-in_err-site t c =
     let view : View = view_at c.args.scope.now in
-    let of = c.get-in-Member.result.now in
-    let is : t.Member of c.in-Member.name ≡ c.args.place.now = cc in
-    let r = c.step_to_member.result in
-    subst (λ p. Tells site_of r (m.place view p)) is (onward_with site_of r (m.place view of) (site_of c.in_ok-site-in-Member.site) (onto_member view c.in-Member.name) c.in_ok-site-in-Member.ensures c.step_to_member.ensures)
+    let base = base_place c.place.inside.base in
+    let all = c.place.inside.selectors in
+    let r = c.from_residual.result in
+    subst (Tells site_of r) (sym (selected_place view base all) ∙ ap (m.place view) c.place.view_is)
+    (exit site_of site_of c.in_err-site.field-0.0 r (m.place view base) (onto_selectors view all) c.from_residual.ensures.1 c.in_err-site.ensures)
+
+pub place_of-returns : goal.place_of-returns
+place_of-returns t c =
+    let view : View = view_at c.args.scope.now in
+    let base = base_place c.place.inside.base in
+    let all = c.place.inside.selectors in
+    let r = c.selected_site.result in
+    let site = site_of c.in_ok-site.site in
+    subst (Tells site_of r) (sym (selected_place view base all) ∙ ap (m.place view) c.place.view_is)
+    (onward_with site_of r (m.place view base) site (onto_selectors view all) c.in_ok-site.ensures (subst (λ l. Tells site_of r (onto_selectors view l site)) c.as_slice.ensures c.selected_site.ensures))
+
+pub selected_site-step_to-requires : goal.selected_site-step_to-requires
+selected_site-step_to-requires t c =
+    let split = first_of c.loop-rest.rest.now c.first-item.result (omega arith) c.first-item.is in
+    (omega (arith, ap selectors_size split, c.loop-rest.invariant.smaller), c.requires)
+
+pub selected_site-returns-in_err-site : goal.selected_site-returns-in_err-site
+selected_site-returns-in_err-site t c =
+    let v : View = view_at c.args.scope.now in
+    let rest = c.loop-rest.rest.now in
+    let first = c.first-item.result in
+    let at = site_of c.loop-rest.site in
+    let r = c.from_residual.result in
+    let split = first_of rest first (omega arith) c.first-item.is in
+    subst (Tells site_of r) (ap (λ l. onto_selectors v l at) (sym split) ∙ c.loop-rest.invariant.same)
+    (exit site_of site_of c.in_err-site.field-0.0 r (onto_selector v first at) (onto_selectors v (after rest)) c.from_residual.ensures.1 c.in_err-site.ensures)
+
+pub selected_site-loop-rest-preserved : goal.selected_site-loop-rest-preserved
+selected_site-loop-rest-preserved t c =
+    let v : View = view_at c.args.scope.now in
+    let rest = c.loop-rest.rest.now in
+    let first = c.first-item.result in
+    let at = site_of c.loop-rest.site in
+    let split = first_of rest first (omega arith) c.first-item.is in
+    record {
+      same = next_selected v first (after rest) at (site_of c.in_ok-site.site) c.in_ok-site.ensures ∙ ap (λ l. onto_selectors v l at) (sym split) ∙ c.loop-rest.invariant.same;
+      smaller = omega (arith, ap selectors_size split, c.loop-rest.invariant.smaller);
+    }
+
+pub selected_site-returns : goal.selected_site-returns
+selected_site-returns t c =
+    let v : View = view_at c.args.scope.now in
+    sym (none_selected v c.loop-rest.rest.now (site_of c.loop-rest.site) (omega arith)) ∙ c.loop-rest.invariant.same
 
 pub read-returns-in-Some : goal.read-returns-in-Some
 read-returns-in-Some t c =
@@ -117,25 +160,15 @@ value_of-returns-in-Null size c =
     let is : t.Null ≡ c.args.e.now = cc in
     ap Got c.null.ensures ∙ ap (m.value (view_at c.args.scope.now)) is
 
-pub index_of-returns-in_err-site : goal.index_of-returns-in_err-site
-unfolding value place
-index_of-returns-in_err-site t c =
-    let view : View = view_at c.args.scope.now in
-    exit site_of site_of c.in_err-site.field-0.0 c.from_residual.result (m.place view c.args.of.now) _ c.from_residual.ensures.1 c.in_err-site.ensures
-
 pub index_of-returns-in_err-x : goal.index_of-returns-in_err-x
-unfolding value place
 index_of-returns-in_err-x t c =
     let view : View = view_at c.args.scope.now in
-    onward_with site_of c.from_residual-in_err-x.result (m.place view c.args.of.now) (site_of c.in_ok-site.site) _ c.in_ok-site.ensures
-    (exit value_of site_of c.in_err-x.field-0.0 c.from_residual-in_err-x.result (m.value view c.args.a.now) (onto_element (site_of c.in_ok-site.site)) c.from_residual-in_err-x.ensures.1 c.in_err-x.ensures)
+    exit value_of site_of c.in_err-x.field-0.0 c.from_residual.result (m.value view c.args.a.now) (onto_element (site_of c.args.site)) c.from_residual.ensures.1 c.in_err-x.ensures
 
 pub index_of-returns : goal.index_of-returns
-unfolding value place
 index_of-returns t c =
     let view : View = view_at c.args.scope.now in
-    onward_with site_of c.step_to_element.result (m.place view c.args.of.now) (site_of c.in_ok-site.site) _ c.in_ok-site.ensures
-    (onward_with site_of c.step_to_element.result (m.value view c.args.a.now) (value_of c.in_ok-x.x) (onto_element (site_of c.in_ok-site.site)) c.in_ok-x.ensures c.step_to_element.ensures)
+    onward_with site_of c.step_to_element.result (m.value view c.args.a.now) (value_of c.in_ok-x.x) (onto_element (site_of c.args.site)) c.in_ok-x.ensures c.step_to_element.ensures
 
 pub binary_of-returns-in_err-x : goal.binary_of-returns-in_err-x
 unfolding value place

@@ -13,7 +13,7 @@ returns-in-Ok c =
     let v = view_at c.args.scope.now in
     let at = site_of c.args.site in
     let there : m.member v.declared c.args.name.now at.of ≡ Got (step_of c.in-Ok.step) =
-    ap (λ ds. m.member ds c.args.name.now at.of) (sym c.as_slice.ensures) ∙ sym c.member.ensures ∙ ap (said step_of) c.in-Ok.is in
+    sym c.member.ensures ∙ ap (said step_of) c.in-Ok.is in
     let h = c.in_ok-onward-in-Ok.ensures in
     ap Got h ∙ sym (to_member v c.args.name.now at (step_of c.in-Ok.step) there)
 
@@ -23,5 +23,5 @@ returns c =
     let v = view_at c.args.scope.now in
     let at = site_of c.args.site in
     let none : m.member v.declared c.args.name.now at.of ≡ Bad c.in-Err.kind =
-    ap (λ ds. m.member ds c.args.name.now at.of) (sym c.as_slice.ensures) ∙ sym c.member.ensures ∙ ap (said step_of) c.in-Err.is in
+    sym c.member.ensures ∙ ap (said step_of) c.in-Err.is in
     sym (no_member v c.args.name.now at c.in-Err.kind none)

@@ -9,7 +9,7 @@ use Rattle.c_evaluation.proofs.operate.equal.Goals as goal
 
 pub returns-in-Ok-Ok : goal.returns-in-Ok-Ok
 returns-in-Ok-Ok c =
-    let ds = c.args.declared.now in
+    let ds = c.args.scope.now.program.now.declarations in
     let x = value_of c.args.x.now in
     let y = value_of c.args.y.now in
     let same : alike ds (type_in x) (type_in y) ≡ true = cc in
@@ -19,7 +19,7 @@ returns-in-Ok-Ok c =
 
 pub returns-in-Ok-Err : goal.returns-in-Ok-Err
 returns-in-Ok-Err c =
-    let ds = c.args.declared.now in
+    let ds = c.args.scope.now.program.now.declarations in
     let x = value_of c.args.x.now in
     let y = value_of c.args.y.now in
     let same : alike ds (type_in x) (type_in y) ≡ true = cc in
@@ -29,7 +29,7 @@ returns-in-Ok-Err c =
 
 pub returns-in-Err-default : goal.returns-in-Err-default
 returns-in-Err-default c =
-    let ds = c.args.declared.now in
+    let ds = c.args.scope.now.program.now.declarations in
     let x = value_of c.args.x.now in
     let y = value_of c.args.y.now in
     let same : alike ds (type_in x) (type_in y) ≡ true = cc in

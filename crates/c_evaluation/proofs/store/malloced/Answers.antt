@@ -23,4 +23,4 @@ returns c =
     let r = c.put_value.result in
     let site = site_of c.in_ok-site.site in
     store_with blocks r (m.place v c.args.place.now) site (λ site. put_value v site (w.Typed (Of (t.Pointer c.args.of.now)) (Leaf (Pointer (length c.args.scope.now.memory.now) [])))) c.in_ok-site.ensures
-    (subst (λ x. Stores blocks r (put_value v site x)) c.new_pointer-value.ensures c.put_value.ensures)
+    (subst (λ x. Stores blocks r (put_value v site x)) c.in_ok-value.ensures c.put_value.ensures)

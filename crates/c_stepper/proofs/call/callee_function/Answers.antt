@@ -1,7 +1,5 @@
-use Rattle.std.proofs.Common.{subst, ℕ, List, Option}
-use Rattle.c_tree.specs.declared.program.CFunction.{CFunction}
+use Rattle.std.proofs.Common.{ℕ, Option}
 use Rattle.c_meaning.specs.Evaluate.{View}
-use Rattle.c_evaluation.specs.Halts.{Tells}
 use Rattle.c_evaluation.specs.Values.{value_of}
 use Rattle.c_evaluation.specs.Scopes.{view_at}
 use Rattle.c_evaluation.proofs.Evaluations.{exit, onward_with}
@@ -20,5 +18,4 @@ returns-clause-value c =
     let v : View = view_at scope in
     let r = c.function_called.result in
     let x = value_of c.in_ok-value.value in
-    onward_with (λ (o : Option ℕ). o) r (callee_value v c.args.who.now) x (function_called scope.program.now.functions) c.in_ok-value.ensures
-    (subst (λ (fs : List CFunction). Tells (λ (o : Option ℕ). o) r (function_called fs x)) c.as_slice.ensures c.function_called.ensures.value)
+    onward_with (λ (o : Option ℕ). o) r (callee_value v c.args.who.now) x (function_called scope.program.now.functions) c.in_ok-value.ensures c.function_called.ensures.value

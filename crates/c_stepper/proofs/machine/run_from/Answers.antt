@@ -1,9 +1,10 @@
 use Rattle.std.proofs.Common.{◌≡◌, ◌≢◌, ◌+◌, ◌≤◌, ◌∙◌, refl, sym, subst, arith, List, ℕ, Option, Bool, true, false}
 use Rattle.p2c_outside.specs.Counts.{Rose}
-use Rattle.c_stepper.specs.Machines.{Ran, RunFaults, ended_by}
+use Rattle.c_stepper.specs.Machines.{Ran, RunFaults, HasStatus, ended_by}
 use Rattle.c_stepper.specs.declared.machine.Stepped.TheVariants as s
 use Rattle.c_stepper.specs.declared.machine.Ended as e
-use Rattle.c_stepper.proofs.Running.{Along, along_at_start, along, ends_run, takes_few, last_put, last_few, faults_of}
+use Rattle.c_stepper.proofs.Statuses.{taken_few}
+use Rattle.c_stepper.proofs.Running.{Along, along_at_start, along, ends_run, takes_few, last_put, last_few, faults_of, spent_faults}
 use Rattle.c_stepper.proofs.machine.run_from.Goals as goal
 
 pub loop-left-init : goal.loop-left-init
@@ -68,6 +69,7 @@ returns-in_default g c =
           (subst (λ (t : ℕ). RunFaults (g.I.Source.faults c.loop-left.input) (g.I.Source.faults c.step.new.input) t (g.O.Sink.faults c.step.new.out) c.last_answer.result) i.no_output
           (subst (λ (r : e.Ended). RunFaults (g.I.Source.faults c.loop-left.input) (g.I.Source.faults c.step.new.input) (g.O.Sink.faults c.loop-left.out) (g.O.Sink.faults c.step.new.out) r) (sym last)
           (faults_of new.calls a (g.I.Source.faults c.loop-left.input) (g.I.Source.faults c.step.new.input) (g.O.Sink.faults c.loop-left.out) (g.O.Sink.faults c.step.new.out) (told.take_faults i.going) (told.put_faults i.going))));
+      status = subst HasStatus (sym last) (taken_few p old new left0 left1 (g.O.Sink.written c.loop-left.out) w2 a new.calls (told.takes i.going));
     }
 
 pub returns-clause-ran : goal.returns-clause-ran
@@ -92,3 +94,9 @@ returns-clause-ahead g c = λ bytes is.
     let i = c.loop-left.invariant in
     let within : old.taken ≤ c.args.steps = omega (arith, i.taken) in
     last_few p bytes old (g.I.Source.left c.loop-left.input) (g.O.Sink.written c.args.out.now) (g.O.Sink.written c.loop-left.out) (g.O.Sink.written c.spend.new.out) (i.along bytes is) i.end c.args.steps within (i.is_for.ahead i.going)
+
+pub returns-clause-faults : goal.returns-clause-faults
+returns-clause-faults g c =
+    let i = c.loop-left.invariant in
+    spent_faults (g.I.Source.faults c.args.input.now) (g.I.Source.faults c.loop-left.input) (g.O.Sink.faults c.args.out.now) (g.O.Sink.faults c.loop-left.out) (g.O.Sink.faults c.spend.new.out) c.spend.result
+    i.no_input i.no_output c.spend.ensures.whole c.spend.ensures.part

@@ -1,9 +1,0 @@
-use Rattle.std.proofs.Common.{◌≡◌, length}
-use Rattle.c_meaning.specs.Types.{typedef_of}
-use Rattle.c_evaluation.proofs.types.typedef_of.Given as goal
-
-abbrev pub invariant-loop-rest : goal.invariant-loop-rest
-invariant-loop-rest l = typedef_of l.name l.rest ≡ typedef_of l.fn.name l.fn.declared
-
-abbrev pub decreases-loop-rest : goal.decreases-loop-rest
-decreases-loop-rest l = length l.rest
