@@ -1,7 +1,6 @@
 -- From the parser's answer at a place to what it means in the words of the grammar.
-use Rattle.std.proofs.Common.{◌≡◌, ℕ, zero, suc, ◌+◌, ◌-◌, ◌<◌, ◌≤◌, List, [], ◌∷◌, ◌++◌, length, take, drop, Result, Ok, Err, refl, sym, ap, subst, ◌∙◌, append_assoc, arith, length-append}
+use Rattle.std.proofs.Common.{◌≡◌, ℕ, zero, suc, ◌+◌, ◌-◌, ◌≤◌, List, [], ◌∷◌, ◌++◌, length, drop, Result, Ok, Err, refl, sym, ap, subst, ◌∙◌, append_assoc, arith, length-append}
 use Rattle.std.specs.List.{Contains}
-use Rattle.std.proofs.lemmas.List.{append-nil}
 use Rattle.std.proofs.lemmas.List.Elements.{Contains-append_right}
 use Rattle.p2c_text.specs.declared.dialect.Dialect.{Dialect}
 use Rattle.p2c_text.specs.declared.place.Span.{Span}
@@ -17,7 +16,7 @@ use Rattle.expr_parser.specs.declared.fault.SyntaxFault.{SyntaxFault}
 use Rattle.expr_parser.specs.declared.fault.SyntaxFault.TheVariants as fault
 use Rattle.expr_parser.specs.Tokens.{Token, Placed, seen, plain}
 use Rattle.expr_parser.specs.Spans.{next_place}
-use Rattle.expr_parser.specs.Grammar.{IsToken, AreTokens}
+use Rattle.expr_parser.specs.Grammar.{AreTokens}
 use Rattle.expr_parser.specs.Text.{MayBegin}
 use Rattle.expr_parser.specs.Expressions.{expr}
 use Rattle.expr_parser.specs.Parsed.{end_of, Means, Answers, IsRead}

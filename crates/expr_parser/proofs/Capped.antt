@@ -1,10 +1,10 @@
 -- Numbers after `#` may stop at 255 as they are read.
-use Rattle.std.proofs.Common.{◌≡◌, ℕ, ◌+◌, ◌*◌, min, Bool, true, false, ◌||◌, ◌==◌, if◌then◌else◌, List, [], ◌∷◌, ◌++◌, map, refl, sym, ap, ◌∙◌, append_assoc, arith}
+use Rattle.std.proofs.Common.{◌≡◌, ℕ, ◌+◌, ◌*◌, Bool, true, false, ◌||◌, ◌==◌, if◌then◌else◌, List, [], ◌∷◌, ◌++◌, map, refl, sym, ap, ◌∙◌, append_assoc, arith}
 use Rattle.std.proofs.lemmas.List.{map-append}
 use Rattle.dialect_lexer.specs.Bytes.{base_number, digit_value}
 use Rattle.dialect_lexer.specs.declared.bytes.Base.{Base}
 use Rattle.dialect_lexer.specs.declared.bytes.Base.TheVariants.{Decimal, Hexadecimal}
-use Rattle.dialect_lexer.specs.Values.{Reading, Before, Inside, Quoted, Coded, after_part, next_reading, completed, completed_at_end, bytes_from}
+use Rattle.dialect_lexer.specs.Values.{Reading, Before, Inside, Quoted, Coded, next_reading, completed, bytes_from}
 use Rattle.expr_parser.specs.Texts.{cap, capped}
 
 grown : (base : Base) (v w d : ℕ) → cap v ≡ cap w → cap (v * base_number base + d) ≡ cap (w * base_number base + d)

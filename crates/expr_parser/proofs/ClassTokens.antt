@@ -1,7 +1,5 @@
 -- Which token is of which class.
-use Rattle.std.proofs.Common.{◌≡◌, ℕ, suc, ◌-◌, ℤ, Bool, true, false, List, [], ◌∷◌, length, Option, Some, None, refl, sym, ap, ◌∙◌, rules, arith}
-use Rattle.std.specs.Prelude.{nat_lt, slice_get}
-use Rattle.std.specs.Option.{option_map}
+use Rattle.std.proofs.Common.{◌≡◌, ℕ, ℤ, Bool, true, false, List, Some, None, refl, sym, ap, ◌∙◌, rules}
 use denote.Enum.Bare.{same_true}
 use Rattle.p2c_text.specs.declared.place.Span.{Span}
 use Rattle.dialect_lexer.specs.declared.token.Word.{Word as WordSymbol}
@@ -19,7 +17,7 @@ use Rattle.pascal_tree.specs.declared.expressions.Adding.{Adding}
 use Rattle.pascal_tree.specs.declared.expressions.Adding.TheVariants as adding
 use Rattle.pascal_tree.specs.declared.expressions.Multiplying.{Multiplying}
 use Rattle.pascal_tree.specs.declared.expressions.Multiplying.TheVariants as multiplying
-use Rattle.expr_parser.specs.Tokens.{Token, Placed, Name, Number, Text, Word, Symbol}
+use Rattle.expr_parser.specs.Tokens.{Token, Name, Number, Text, Word, Symbol}
 use Rattle.expr_parser.specs.Classes.{same_word, same_symbol, if_true, identifier_of, number_of, text_of, word_of, symbol_of, sign_of, relation_of_symbol, relation_of_word, adding_of_symbol, adding_of_word, multiplying_of_symbol, multiplying_of_word, operator_of}
 use Rattle.expr_parser.specs.Writing.{sign_token, relation_token, adding_token, multiplying_token}
 

@@ -1,25 +1,23 @@
 -- From the parser to what its answers mean.
-use Rattle.std.proofs.Common.{◌≡◌, ℕ, zero, suc, ◌+◌, ◌<◌, ◌≤◌, List, [], ◌∷◌, ◌++◌, length, map, Ok, Err, refl, sym, ap, subst, ◌∙◌, append_assoc, arith, length-append}
-use Rattle.std.specs.Prelude.{IsTrue}
+use Rattle.std.proofs.Common.{◌≡◌, ℕ, suc, ◌+◌, ◌<◌, ◌≤◌, List, [], ◌∷◌, ◌++◌, length, Ok, Err, refl, sym, ap, subst, ◌∙◌, append_assoc, arith, length-append}
 use Rattle.std.proofs.lemmas.List.{append-nil, map-append}
 use Rattle.p2c_text.specs.declared.dialect.Dialect.{Dialect}
 use Rattle.p2c_text.specs.declared.place.Span.{Span}
 use Rattle.pascal_tree.specs.declared.expressions.Expr.{Expr}
 use Rattle.token_parsing.specs.declared.refusal.Refusal.TheVariants.{Unexpected, TooDeep}
 use Rattle.token_parsing.specs.Parser.{Outcome}
-use Rattle.token_parsing.proofs.Fair.{Fair, reads, refuses, stops}
+use Rattle.token_parsing.proofs.Fair.{reads, refuses, stops}
 use Rattle.expr_parser.specs.Tokens.{Token, Placed, plain}
-use Rattle.expr_parser.specs.Layout.{tokens_of, height_of, IsWritten}
+use Rattle.expr_parser.specs.Layout.{tokens_of, height_of}
 use Rattle.expr_parser.specs.Writing.{write_expr}
 use Rattle.expr_parser.specs.Grammar.{AreTokens, IsExpr, formed_expr}
-use Rattle.expr_parser.specs.Text.{Derives, BeginsExpr, MayBegin, IsLongestRun}
+use Rattle.expr_parser.specs.Text.{Derives, BeginsExpr, MayBegin}
 use Rattle.expr_parser.specs.Expressions.{expr}
 use Rattle.expr_parser.specs.Laws.{ReadIsLongest, UnexpectedIsAfter, TooDeepIsDeep}
-use Rattle.expr_parser.proofs.Layouts.{spell, spell_tokens, Taken, written_taken}
+use Rattle.expr_parser.proofs.Layouts.{spell, spell_tokens, written_taken}
 use Rattle.expr_parser.proofs.Followed.{Until, ended, upto, limit, Along, done, last, longer, Followed, meets, past, refuses_past, too_deep}
-use Rattle.expr_parser.proofs.FollowedParts.{Part}
 use Rattle.expr_parser.proofs.FollowedFactors.{expr_followed}
-use Rattle.expr_parser.proofs.Tests.{nothing_ends}
+use Rattle.expr_parser.proofs.Lookahead.{nothing_ends}
 use Rattle.expr_parser.proofs.Openings.{whole, Hole}
 use Rattle.expr_parser.proofs.Spots.{Answer, Spot, Reads, are_first}
 use Rattle.expr_parser.proofs.SoundFactors.{expr_sound}

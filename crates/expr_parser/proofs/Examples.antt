@@ -1,9 +1,8 @@
 -- Worked examples.
-use Rattle.std.proofs.Common.{◌≡◌, ℕ, suc, pos, List, [], ◌∷◌, None, Ok, Err, refl}
+use Rattle.std.proofs.Common.{◌≡◌, ℕ, suc, pos, [], ◌∷◌, None, Ok, Err, refl}
 use Rattle.p2c_text.specs.declared.dialect.Dialect.TheVariants.{Iso}
 use Rattle.p2c_text.specs.declared.place.Span.{Span}
 use Rattle.dialect_lexer.specs.declared.token.Symbol.TheVariants as mark
-use Rattle.pascal_tree.specs.declared.names.Identifier.{Identifier}
 use Rattle.pascal_tree.specs.declared.expressions.Adding.TheVariants as adding
 use Rattle.pascal_tree.specs.declared.expressions.Factor.TheVariants as factor_
 use Rattle.token_parsing.specs.declared.refusal.Refusal.TheVariants.{Unexpected, TooDeep}
@@ -14,7 +13,7 @@ use Rattle.expr_parser.specs.Spans.{span_between}
 use Rattle.expr_parser.specs.Classes.{same_word, same_symbol}
 use Rattle.expr_parser.specs.Places.{selectors, place_of, place_from}
 use Rattle.expr_parser.specs.Factors.{number, named, read_place, set, factor_by}
-use Rattle.expr_parser.specs.Expressions.{term_of, added_of, simple_of, expr_of, next_factor, more_factors, term, optional_sign, next_term, more_terms, simple, compared, expr_by, expr, factor}
+use Rattle.expr_parser.specs.Expressions.{term_of, added_of, simple_of, expr_of, next_factor, more_factors, term, optional_sign, next_term, more_terms, simple, compared, expr_by, expr}
 
 abbrev span : ℕ → ℕ → Span
 span start end = record { file = 0; start = start; end = end; line = 1 }

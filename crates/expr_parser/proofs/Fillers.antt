@@ -1,10 +1,7 @@
 -- Parts that may stand where one is wanted, and that their tokens are those of each dialect.
-use Rattle.std.proofs.Common.{◌≡◌, ℕ, suc, ◌+◌, Bool, true, List, [], ◌∷◌, length, Some, None, refl, sym, ap, ◌∙◌, arith}
-use Rattle.std.specs.Prelude.{IsTrue}
-use Rattle.std.specs.List.{Contains}
+use Rattle.std.proofs.Common.{◌≡◌, ℕ, List, [], ◌∷◌, refl, arith}
 use Rattle.p2c_text.specs.declared.dialect.Dialect.{Dialect}
 use Rattle.p2c_text.specs.declared.dialect.Dialect.TheVariants as dialect
-use Rattle.p2c_text.specs.declared.place.Span.{Span}
 use Rattle.dialect_lexer.specs.Bytes.{start_of}
 use Rattle.dialect_lexer.specs.Ends.{run}
 use Rattle.dialect_lexer.specs.Words.{word_of, words_with}
@@ -17,8 +14,8 @@ use Rattle.dialect_lexer.specs.declared.token.TokenKind.TheVariants as kind
 use Rattle.dialect_lexer.specs.declared.token.Word.TheVariants as word
 use Rattle.dialect_lexer.specs.declared.token.Symbol.TheVariants as mark
 use Rattle.dialect_lexer.proofs.Pieces.{cut_front}
-use Rattle.expr_parser.specs.Tokens.{Token, seen, plain, Name, Word, Symbol}
-use Rattle.expr_parser.specs.Grammar.{IsToken, AreTokens}
+use Rattle.expr_parser.specs.Tokens.{seen, plain, Name, Word, Symbol}
+use Rattle.expr_parser.specs.Grammar.{IsToken}
 
 -- the text `a nil])`
 abbrev text : List ℕ

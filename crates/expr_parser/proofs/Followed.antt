@@ -1,9 +1,8 @@
 -- A text of the grammar is followed: as long as the tokens are those of the text, none is refused. Which tree is read is not asked.
-use Rattle.std.proofs.Common.{◌≡◌, ℕ, zero, suc, ◌<◌, ◌≤◌, Bool, true, false, List, [], ◌∷◌, length, Option, Some, None, Ok, Err, refl, sym, ap, subst, ◌∙◌, arith}
-use Rattle.std.specs.List.{AllByRecursion}
+use Rattle.std.proofs.Common.{◌≡◌, ℕ, zero, suc, ◌<◌, ◌≤◌, Bool, true, false, List, [], ◌∷◌, length, Option, Some, None, Ok, Err, refl, ap, subst, ◌∙◌, arith}
 use Rattle.token_parsing.specs.declared.refusal.Refusal.TheVariants.{Unexpected, TooDeep}
 use Rattle.token_parsing.specs.Parser.{Outcome, Parser, Class, and_then, take_of, one_of, is_some, begins, again, repeat}
-use Rattle.token_parsing.proofs.Tracked.{Shorter, short, refuses_short, stops_short, Shrinks, short_then, then_shrinks, again_shrinks, pure_shrinks, Takes}
+use Rattle.token_parsing.proofs.Tracked.{Shorter, short, refuses_short, stops_short, Shrinks, short_then, again_shrinks, Takes}
 use Rattle.expr_parser.specs.Tokens.{Token, Placed}
 
 -- ---- the tokens of a text

@@ -1,5 +1,5 @@
 -- Factors and whole expressions of a text are followed.
-use Rattle.std.proofs.Common.{◌≡◌, ℕ, zero, suc, ℤ, ◌≤◌, Bool, true, false, ◌&&◌, List, [], ◌∷◌, length, map, Option, Some, None, Ok, Err, refl, sym, ap, subst, ◌∙◌, arith}
+use Rattle.std.proofs.Common.{◌≡◌, ℕ, zero, suc, ℤ, ◌≤◌, false, List, [], ◌∷◌, length, map, Option, Some, None, refl, sym, ap, subst, ◌∙◌, arith}
 use Rattle.p2c_text.specs.declared.dialect.Dialect.{Dialect}
 use Rattle.p2c_text.specs.declared.place.Span.{Span}
 use Rattle.dialect_lexer.specs.declared.token.Word.TheVariants as word_
@@ -12,11 +12,11 @@ use Rattle.pascal_tree.specs.declared.expressions.Factor.{Factor}
 use Rattle.pascal_tree.specs.declared.expressions.Factor.TheVariants as factor_
 use Rattle.pascal_tree.specs.declared.expressions.Place.{Place, out-Place}
 use Rattle.token_parsing.specs.Parser.{Parser, begins}
-use Rattle.token_parsing.proofs.Tracked.{Shrinks, Shorter, pure_shrinks, one_shrinks, then_shrinks, short_then}
-use Rattle.expr_parser.specs.Tokens.{Token, Placed, Name, Number, Text, Word, Symbol}
-use Rattle.expr_parser.specs.Layout.{Layout, Done, ◌&◌, symbol, word, spanned, counted, with_commas, after_commas, height_of}
+use Rattle.token_parsing.proofs.Tracked.{Shrinks, pure_shrinks, one_shrinks, then_shrinks, short_then}
+use Rattle.expr_parser.specs.Tokens.{Token, Placed, Symbol}
+use Rattle.expr_parser.specs.Layout.{Layout, ◌&◌, symbol, word, counted, with_commas, after_commas, height_of}
 use Rattle.expr_parser.specs.Writing.{identifier, optional_after as write_after, write_args, write_elem, write_expr, write_factor, write_place}
-use Rattle.expr_parser.specs.Grammar.{all, some_all, optional, formed_args, formed_elem, formed_expr, formed_factor, formed_place}
+use Rattle.expr_parser.specs.Grammar.{all, optional, formed_elem, formed_factor}
 use Rattle.expr_parser.specs.Classes.{same_word, same_symbol, identifiers, numbers, texts, words, symbols}
 use Rattle.expr_parser.specs.Places.{optional_after, args}
 use Rattle.expr_parser.specs.Factors.{number, text, nil, call, read_place, named, group, negation, elem, next_elem, more_elems, some_elems, elems, set, factor_by}
@@ -24,16 +24,16 @@ use Rattle.expr_parser.specs.Expressions.{expr, factor}
 use Rattle.expr_parser.proofs.Layouts.{spell, spell_join}
 use Rattle.expr_parser.proofs.WrittenNodes.{write_optional, write_factor_number, write_factor_text, write_factor_nil, write_factor_place, write_factor_call, write_factor_group, write_factor_not, write_factor_set}
 use Rattle.expr_parser.proofs.FormedNodes.{formed_optional, formed_elem_of, formed_factor_place, formed_factor_call, formed_factor_group, formed_factor_not, formed_factor_set}
-use Rattle.expr_parser.proofs.Views.{elem_is, FactorCases, factor_cases}
+use Rattle.expr_parser.proofs.Views.{elem_is, factor_cases}
 use Rattle.expr_parser.proofs.Spelled.{elem_written, expr_written, elem_spelled, place_spelled, args_spelled}
 use Rattle.expr_parser.proofs.Starts.{Starts, expr_starts}
-use Rattle.expr_parser.proofs.Shrinks.{optional_shrinks, listed_args_shrinks, args_shrinks, place_from_shrinks, call_shrinks, read_place_shrinks, after_name_shrinks, elem_shrinks, some_elems_shrinks, elems_shrinks, expr_shrinks, factor_shrinks}
+use Rattle.expr_parser.proofs.Shrinks.{optional_shrinks, listed_args_shrinks, after_name_shrinks, elem_shrinks, elems_shrinks, expr_shrinks, factor_shrinks}
 use Rattle.expr_parser.proofs.Followed.{Until, Along, Followed, too_deep, Begun, on_first, follow_then, follow_pure, follow_token, follow_first, follow_second, follow_not, begun_token, looks_at, looks_false}
 use Rattle.expr_parser.proofs.FollowedParts.{Part, part_as, part_first, part_second, part_left, part_right, part_inside, part_counted, along_as, ExprFollowed, FactorFollowed}
 use Rattle.expr_parser.proofs.FollowedLists.{commas_followed}
 use Rattle.expr_parser.proofs.FollowedPlaces.{optional_none, optional_some, place_from_followed, no_arguments, args_followed}
 use Rattle.expr_parser.proofs.FollowedTerms.{expr_by_followed}
-use Rattle.expr_parser.proofs.Tests.{looks_name, looks_number, looks_text, looks_word, looks_symbol, on_symbol, on_symbol_here, accepts_name, accepts_number, accepts_text, accepts_word, accepts_symbol, ExprEnds, FactorEnds, mark_ends}
+use Rattle.expr_parser.proofs.Lookahead.{looks_name, looks_number, looks_text, looks_word, looks_symbol, on_symbol, on_symbol_here, accepts_name, accepts_number, accepts_text, accepts_word, accepts_symbol, ExprEnds, FactorEnds, mark_ends}
 
 module _ (n : Until) (W : Type 0) (d : Dialect) (end : Span) (k : ℕ) (child : Parser Placed Expr) (shrinks : Shrinks child) (good : ExprFollowed n W d k child) where
   -- ---- elements of sets

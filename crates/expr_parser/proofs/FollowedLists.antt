@@ -1,5 +1,5 @@
 -- Lists with commas of a text are followed.
-use Rattle.std.proofs.Common.{◌≡◌, ℕ, Bool, true, false, ◌&&◌, List, [], ◌∷◌, ◌++◌, map, Ok, refl, sym, ap, subst, ◌∙◌}
+use Rattle.std.proofs.Common.{◌≡◌, ℕ, Bool, false, ◌&&◌, List, [], ◌∷◌, ◌++◌, map, Ok, refl, ap}
 use Rattle.dialect_lexer.specs.declared.token.Symbol.TheVariants as mark
 use Rattle.token_parsing.specs.Parser.{Parser, and_then, begins, repeat}
 use Rattle.token_parsing.proofs.Tracked.{Shrinks, pure_shrinks, one_shrinks, then_shrinks, repeat_shrinks, takes_token}
@@ -10,7 +10,7 @@ use Rattle.expr_parser.specs.Classes.{symbols, expect}
 use Rattle.expr_parser.proofs.Layouts.{spell, spell_join}
 use Rattle.expr_parser.proofs.Followed.{Until, Along, Followed, on_first, follow_then, follow_pure, follow_token, begun_token, Listing, Items, follow_list}
 use Rattle.expr_parser.proofs.FollowedParts.{Part, part_first, part_second, part_right, along_as}
-use Rattle.expr_parser.proofs.Tests.{looks_symbol, on_symbol, on_symbol_here, accepts_symbol}
+use Rattle.expr_parser.proofs.Lookahead.{looks_symbol, on_symbol, on_symbol_here, accepts_symbol}
 
 -- Items that `one` reads, each where P holds of what follows it, as of a comma.
 module _ {A : Type 0} (n : Until) (W : Type 0) (k : ℕ) (write : A → Layout) (formed : A → Bool) (one : Parser Placed A) (shrinks : Shrinks one) (P : List Token → Type 0) (comma : (w : List Token) → P (Symbol mark.Comma ∷ w)) where

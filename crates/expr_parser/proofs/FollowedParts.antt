@@ -1,5 +1,5 @@
 -- What is asked of a part of a tree whose text is followed, and rows of such parts.
-use Rattle.std.proofs.Common.{◌≡◌, ℕ, zero, suc, ◌≤◌, max, Bool, true, false, ◌&&◌, List, refl, sym, ap, subst, ◌∙◌, arith, true≢false}
+use Rattle.std.proofs.Common.{◌≡◌, ℕ, suc, ◌≤◌, Bool, true, false, ◌&&◌, List, refl, sym, subst, arith, true≢false}
 use Rattle.std.specs.Prelude.{IsTrue}
 use Rattle.p2c_text.specs.declared.dialect.Dialect.{Dialect}
 use Rattle.p2c_text.specs.declared.place.Span.{Span}
@@ -12,7 +12,7 @@ use Rattle.expr_parser.specs.Writing.{write_factor, write_expr}
 use Rattle.expr_parser.specs.Grammar.{formed_factor, formed_expr}
 use Rattle.expr_parser.proofs.Layouts.{spell, height_join}
 use Rattle.expr_parser.proofs.Followed.{Until, Along, Followed}
-use Rattle.expr_parser.proofs.Tests.{FactorEnds, ExprEnds}
+use Rattle.expr_parser.proofs.Lookahead.{FactorEnds, ExprEnds}
 
 pub and_out : (x y : Bool) → IsTrue (x && y) → IsTrue x × IsTrue y
 and_out true y t = (refl, t)

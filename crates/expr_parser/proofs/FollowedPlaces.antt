@@ -1,8 +1,7 @@
 -- Places and arguments of a text are followed.
-use Rattle.std.proofs.Common.{◌≡◌, ℕ, zero, suc, Bool, true, false, ◌&&◌, List, [], ◌∷◌, length, map, Option, Some, None, Ok, refl, sym, ap, subst, ◌∙◌}
+use Rattle.std.proofs.Common.{◌≡◌, ℕ, Bool, true, false, List, [], ◌∷◌, length, map, Option, Some, None, Ok, refl, sym, ap, subst, ◌∙◌}
 use Rattle.std.specs.Prelude.{IsTrue}
 use Rattle.p2c_text.specs.declared.dialect.Dialect.{Dialect}
-use Rattle.p2c_text.specs.declared.dialect.Dialect.TheVariants as dialect
 use Rattle.p2c_text.specs.declared.place.Span.{Span}
 use Rattle.dialect_lexer.specs.Dialects.{is_ucsd}
 use Rattle.dialect_lexer.specs.declared.token.Word.TheVariants as word_
@@ -16,26 +15,26 @@ use Rattle.pascal_tree.specs.declared.expressions.Expr.{Expr}
 use Rattle.pascal_tree.specs.declared.expressions.Place.{Place, out-Place}
 use Rattle.pascal_tree.specs.declared.expressions.Selector.{Selector}
 use Rattle.pascal_tree.specs.declared.expressions.Selector.TheVariants as selector
-use Rattle.token_parsing.specs.Parser.{Parser, and_then, begins, repeat}
+use Rattle.token_parsing.specs.Parser.{Parser, and_then, begins}
 use Rattle.token_parsing.proofs.Tracked.{Shrinks, Shorter, pure_shrinks, one_shrinks, then_shrinks, short_then, Takes, takes_token, takes_then, takes_either}
-use Rattle.expr_parser.specs.Tokens.{Token, Placed, Word, Symbol}
-use Rattle.expr_parser.specs.Layout.{Layout, Done, ◌&◌, symbol, word, spanned, in_row, with_commas, after_commas}
+use Rattle.expr_parser.specs.Tokens.{Token, Placed, Symbol}
+use Rattle.expr_parser.specs.Layout.{Layout, Done, ◌&◌, symbol, in_row, with_commas}
 use Rattle.expr_parser.specs.Writing.{identifier, optional_after as write_after, write_arg, write_args, write_expr, write_place, write_selector}
-use Rattle.expr_parser.specs.Grammar.{all, some_all, optional, formatted, formed_arg, formed_args, formed_expr, formed_place, formed_selector}
+use Rattle.expr_parser.specs.Grammar.{all, some_all, formatted, formed_arg, formed_args, formed_expr, formed_place, formed_selector}
 use Rattle.expr_parser.specs.Spans.{span_between}
-use Rattle.expr_parser.specs.Classes.{same_word, same_symbol, identifiers, words, symbols, expect, expect_word}
+use Rattle.expr_parser.specs.Classes.{same_symbol, identifiers, words, symbols, expect}
 use Rattle.expr_parser.specs.Places.{optional_after, next_expr, more_exprs, exprs, index, field, follow, selected, begins_selector, next_selector, selectors, place_from, value_arg, program_arg, begins_program, one_arg, next_arg, more_args, listed_args, args}
 use Rattle.expr_parser.proofs.Layouts.{spell, spell_join}
 use Rattle.expr_parser.proofs.WrittenNodes.{write_optional, write_selector_index, write_selector_field, write_selector_follow, write_arg_program, write_arg_value}
 use Rattle.expr_parser.proofs.FormedNodes.{formed_optional, formed_place_of, formed_args_of, formed_selector_index, formed_arg_program, formed_arg_value}
-use Rattle.expr_parser.proofs.Views.{place_is, args_is, SelectorCases, selector_cases, ArgCases, arg_cases}
-use Rattle.expr_parser.proofs.Spelled.{place_written, args_written, place_spelled, args_spelled}
+use Rattle.expr_parser.proofs.Views.{place_is, args_is, selector_cases, arg_cases}
+use Rattle.expr_parser.proofs.Spelled.{place_written, args_written, args_spelled}
 use Rattle.expr_parser.proofs.Starts.{expr_starts}
-use Rattle.expr_parser.proofs.Shrinks.{optional_shrinks, next_expr_shrinks, more_exprs_shrinks, exprs_shrinks, index_shrinks, field_shrinks, follow_shrinks, selected_shrinks, next_selector_shrinks, selectors_shrinks, one_arg_shrinks, listed_args_shrinks}
-use Rattle.expr_parser.proofs.Followed.{Until, Along, Followed, Begun, on_first, follow_then, follow_pure, follow_token, follow_first, follow_second, follow_not, begun_token, looks_at, Listing, Items, follow_list}
+use Rattle.expr_parser.proofs.Shrinks.{optional_shrinks, exprs_shrinks, next_selector_shrinks, one_arg_shrinks, listed_args_shrinks}
+use Rattle.expr_parser.proofs.Followed.{Until, Along, Followed, on_first, follow_then, follow_pure, follow_token, follow_first, follow_second, follow_not, begun_token, looks_at, Listing, Items, follow_list}
 use Rattle.expr_parser.proofs.FollowedParts.{and_in, and_out, Part, part_as, part_first, part_second, part_left, part_right, part_inside, along_as, ExprFollowed}
 use Rattle.expr_parser.proofs.FollowedLists.{commas_followed}
-use Rattle.expr_parser.proofs.Tests.{looks_symbol, looks_selector, looks_program, not_program, on_symbol, on_word, on_selector, on_program, on_symbol_here, on_word_here, accepts_symbol, accepts_word, accepts_name, ExprEnds, FactorEnds, mark_ends}
+use Rattle.expr_parser.proofs.Lookahead.{looks_symbol, looks_selector, looks_program, not_program, on_symbol, on_selector, on_symbol_here, on_word_here, accepts_symbol, accepts_word, accepts_name, ExprEnds, FactorEnds, mark_ends}
 
 -- ---- selectors
 

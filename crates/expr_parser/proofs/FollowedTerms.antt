@@ -1,5 +1,5 @@
 -- Terms, sums and comparisons of a text are followed.
-use Rattle.std.proofs.Common.{◌≡◌, ℕ, zero, suc, Bool, true, false, ◌&&◌, List, [], ◌∷◌, map, Option, Some, None, Ok, refl, sym, ap, subst, ◌∙◌}
+use Rattle.std.proofs.Common.{ℕ, suc, ◌&&◌, List, [], ◌∷◌, map, Option, Some, None, Ok, refl, sym, ap, subst, ◌∙◌}
 use Rattle.p2c_text.specs.declared.dialect.Dialect.{Dialect}
 use Rattle.p2c_text.specs.declared.place.Span.{Span}
 use Rattle.pascal_tree.specs.declared.constants.Sign.{Sign}
@@ -14,20 +14,20 @@ use Rattle.token_parsing.specs.Parser.{Parser, and_then, begins, one_of}
 use Rattle.token_parsing.proofs.Tracked.{Shrinks, pure_shrinks, then_shrinks, takes_token}
 use Rattle.expr_parser.specs.Tokens.{Token, Placed}
 use Rattle.expr_parser.specs.Layout.{◌&◌, token, in_row}
-use Rattle.expr_parser.specs.Writing.{optional_sign as write_sign, sign_token, relation_token, adding_token, multiplying_token, write_added, write_expr, write_factor, write_multiplied, write_simple, write_term}
+use Rattle.expr_parser.specs.Writing.{optional_sign as write_sign, relation_token, adding_token, multiplying_token, write_added, write_expr, write_factor, write_multiplied, write_simple, write_term}
 use Rattle.expr_parser.specs.Grammar.{all, formed_added, formed_expr, formed_factor, formed_multiplied, formed_simple, formed_term}
 use Rattle.expr_parser.specs.Classes.{signs, relations, addings, multiplyings}
-use Rattle.expr_parser.specs.Expressions.{multiplied_of, next_factor, more_factors, term, optional_sign, added_of, next_term, more_terms, simple, compared, expr_by}
+use Rattle.expr_parser.specs.Expressions.{next_factor, more_factors, term, optional_sign, next_term, more_terms, simple, compared, expr_by}
 use Rattle.expr_parser.proofs.Layouts.{spell, spell_join}
 use Rattle.expr_parser.proofs.WrittenNodes.{write_right}
 use Rattle.expr_parser.proofs.FormedNodes.{formed_right, formed_term_of, formed_multiplied_of, formed_added_of, formed_simple_of, formed_expr_of}
 use Rattle.expr_parser.proofs.Views.{multiplied_is, term_is, added_is, simple_is, expr_is}
 use Rattle.expr_parser.proofs.Spelled.{multiplied_written, added_written, term_written, simple_written, expr_written, multiplied_spelled, added_spelled, term_spelled, simple_spelled, expr_spelled}
 use Rattle.expr_parser.proofs.Starts.{term_starts}
-use Rattle.expr_parser.proofs.Shrinks.{next_factor_shrinks, more_factors_shrinks, term_shrinks, next_term_shrinks, more_terms_shrinks, sign_shrinks, simple_shrinks, compared_shrinks}
-use Rattle.expr_parser.proofs.Followed.{Until, Along, Followed, Begun, on_first, follow_then, follow_pure, follow_token, follow_first, follow_not, begun_token, looks_at, Listing, Items, follow_list}
-use Rattle.expr_parser.proofs.FollowedParts.{Part, part_as, part_first, part_second, part_left, part_right, part_inside, part_counted, along_as, FactorFollowed, ExprFollowed}
-use Rattle.expr_parser.proofs.Tests.{looks_sign, looks_relation, looks_adding, looks_multiplying, on_relation, on_adding, on_multiplying, on_sign_here, on_relation_here, on_adding_here, on_multiplying_here, accepts_sign, accepts_relation, accepts_adding, accepts_multiplying, FactorEnds, TermEnds, SimpleEnds, ExprEnds, multiplying_ends, adding_ends, relation_ends}
+use Rattle.expr_parser.proofs.Shrinks.{next_factor_shrinks, more_factors_shrinks, term_shrinks, next_term_shrinks, more_terms_shrinks, simple_shrinks, compared_shrinks}
+use Rattle.expr_parser.proofs.Followed.{Until, Along, Followed, Begun, follow_then, follow_pure, follow_token, follow_first, follow_not, begun_token, looks_at, Listing, Items, follow_list}
+use Rattle.expr_parser.proofs.FollowedParts.{Part, part_as, part_first, part_second, part_right, part_inside, part_counted, along_as, FactorFollowed, ExprFollowed}
+use Rattle.expr_parser.proofs.Lookahead.{looks_sign, looks_relation, looks_adding, looks_multiplying, on_adding, on_multiplying, on_sign_here, on_relation_here, on_adding_here, on_multiplying_here, accepts_sign, accepts_relation, accepts_adding, accepts_multiplying, FactorEnds, TermEnds, SimpleEnds, ExprEnds, multiplying_ends, adding_ends, relation_ends}
 
 -- ---- parts of parts
 

@@ -1,11 +1,9 @@
 -- Layouts one after the other, and layouts with one part left open.
-use Rattle.std.proofs.Common.{◌≡◌, ℕ, zero, suc, ◌+◌, max, List, [], ◌∷◌, ◌++◌, length, map, refl, sym, ap, subst, ◌∙◌, append_assoc, arith, length-append}
-use Rattle.std.specs.List.{Contains}
-use Rattle.std.proofs.lemmas.List.{append-nil, map-append}
-use Rattle.std.proofs.lemmas.List.Elements.{Contains-append_left, Contains-append_right}
+use Rattle.std.proofs.Common.{◌≡◌, ℕ, suc, ◌+◌, max, List, [], ◌∷◌, ◌++◌, length, refl, sym, ap, subst, ◌∙◌, append_assoc, arith, length-append}
+use Rattle.std.proofs.lemmas.List.{map-append}
 use Rattle.p2c_text.specs.declared.place.Span.{Span}
 use Rattle.expr_parser.specs.Tokens.{Token, Placed, plain}
-use Rattle.expr_parser.specs.Layout.{Layout, Done, Leaf, Spanned, Counted, ◌&◌, spanned, counted, tokens_of, height_of, levels_of, IsWritten}
+use Rattle.expr_parser.specs.Layout.{Layout, Done, Leaf, Spanned, Counted, ◌&◌, tokens_of, height_of, levels_of, IsWritten}
 
 pub tokens_join : (a b : Layout) → tokens_of (a & b) ≡ tokens_of a ++ tokens_of b
 tokens_join Done b = refl

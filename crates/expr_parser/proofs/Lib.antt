@@ -8,7 +8,7 @@ pub mod Spelled
 pub mod ClassTokens
 pub mod Shrinks
 pub mod Followed
-pub mod Tests
+pub mod Lookahead
 pub mod Starts
 pub mod FollowedParts
 pub mod FollowedTerms

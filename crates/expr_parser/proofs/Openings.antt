@@ -1,5 +1,5 @@
 -- Places in expressions where any part of some kind may stand.
-use Rattle.std.proofs.Common.{◌≡◌, ℕ, zero, suc, ◌+◌, List, [], ◌∷◌, ◌++◌, length, refl, sym, ap, subst, ◌∙◌, append_assoc, arith, length-append}
+use Rattle.std.proofs.Common.{◌≡◌, ℕ, suc, ◌+◌, List, [], ◌∷◌, ◌++◌, length, refl, sym, ap, subst, ◌∙◌, append_assoc, arith, length-append}
 use Rattle.std.specs.Prelude.{IsTrue, Bool}
 use Rattle.std.specs.List.{Contains}
 use Rattle.std.proofs.lemmas.List.{append-nil}
@@ -8,10 +8,10 @@ use Rattle.p2c_text.specs.declared.dialect.Dialect.{Dialect}
 use Rattle.p2c_text.specs.declared.place.Span.{Span}
 use Rattle.pascal_tree.specs.declared.expressions.Expr.{Expr}
 use Rattle.expr_parser.specs.Tokens.{Token}
-use Rattle.expr_parser.specs.Layout.{Layout, Done, Leaf, Spanned, Counted, ◌&◌, spanned, counted, tokens_of, levels_of}
+use Rattle.expr_parser.specs.Layout.{Layout, ◌&◌, spanned, counted, tokens_of, levels_of}
 use Rattle.expr_parser.specs.Writing.{write_expr}
-use Rattle.expr_parser.specs.Grammar.{IsExpr, AreTokens, formed_expr}
-use Rattle.expr_parser.specs.Text.{BeginsExpr, MayBegin}
+use Rattle.expr_parser.specs.Grammar.{AreTokens, formed_expr}
+use Rattle.expr_parser.specs.Text.{BeginsExpr}
 use Rattle.expr_parser.proofs.Layouts.{tokens_join, levels_join}
 
 -- a layout with one part left open: the tokens on both sides of it, and how many counted nodes are around it

@@ -1,39 +1,37 @@
 -- Factors and whole expressions that are read.
-use Rattle.std.proofs.Common.{◌≡◌, ℕ, zero, suc, ◌+◌, ◌≤◌, max, Bool, true, false, ◌&&◌, List, [], ◌∷◌, ◌++◌, length, map, Option, Some, None, Ok, refl, sym, ap, subst, ◌∙◌, arith}
+use Rattle.std.proofs.Common.{◌≡◌, ℕ, zero, suc, ◌+◌, Bool, true, ◌&&◌, List, [], ◌∷◌, length, map, None, refl, sym, ap, subst, ◌∙◌, arith}
 use Rattle.std.specs.Prelude.{IsTrue}
 use Rattle.std.specs.List.{Contains}
 use Rattle.p2c_text.specs.declared.dialect.Dialect.{Dialect}
 use Rattle.p2c_text.specs.declared.place.Span.{Span}
 use Rattle.dialect_lexer.specs.declared.token.Word.TheVariants as word_
 use Rattle.dialect_lexer.specs.declared.token.Symbol.TheVariants as mark
-use Rattle.pascal_tree.specs.declared.names.Identifier.{Identifier}
 use Rattle.pascal_tree.specs.declared.expressions.Elem.{Elem}
 use Rattle.pascal_tree.specs.declared.expressions.Expr.{Expr}
 use Rattle.pascal_tree.specs.declared.expressions.Factor.{Factor}
 use Rattle.pascal_tree.specs.declared.expressions.Factor.TheVariants as factor_
-use Rattle.token_parsing.specs.Parser.{Outcome, Parser, and_then, begins}
-use Rattle.token_parsing.proofs.Fair.{Fair, reads, fair_then, fair_either, fair_so}
-use Rattle.expr_parser.specs.Tokens.{Token, Placed, plain, Number, Text, Word}
+use Rattle.token_parsing.specs.Parser.{Outcome, Parser, begins}
+use Rattle.token_parsing.proofs.Fair.{reads, fair_then, fair_either, fair_so}
+use Rattle.expr_parser.specs.Tokens.{Placed, plain, Number, Text}
 use Rattle.expr_parser.specs.Spans.{span_between}
-use Rattle.expr_parser.specs.Layout.{Layout, Done, ◌&◌, token, symbol, word, spanned, counted, with_commas, tokens_of, height_of, levels_of, IsWritten}
+use Rattle.expr_parser.specs.Layout.{Layout, Done, ◌&◌, token, symbol, word, spanned, counted, with_commas, tokens_of, levels_of, IsWritten}
 use Rattle.expr_parser.specs.Writing.{identifier, write_args, write_elem, write_expr, write_factor, write_place}
-use Rattle.expr_parser.specs.Grammar.{AreTokens, all, some_all, optional, formed_args, formed_elem, formed_expr, formed_factor, formed_place}
-use Rattle.expr_parser.specs.Classes.{identifiers, numbers, texts, words, symbols, expect}
-use Rattle.expr_parser.specs.Places.{made}
+use Rattle.expr_parser.specs.Grammar.{AreTokens, all, some_all, formed_args, formed_elem, formed_expr, formed_factor, formed_place}
+use Rattle.expr_parser.specs.Classes.{identifiers, numbers, texts, words, symbols}
 use Rattle.expr_parser.specs.Factors.{number, text, nil, call, read_place, named, group, negation, elem_of, elem, next_elem, more_elems, some_elems, elems, set, factor_by}
 use Rattle.expr_parser.specs.Expressions.{term_of, simple_of, expr_of, expr, factor}
-use Rattle.expr_parser.proofs.Layouts.{height_join, written_join, tokens_join}
+use Rattle.expr_parser.proofs.Layouts.{height_join, written_join}
 use Rattle.expr_parser.proofs.WrittenNodes.{write_term_of, write_simple_of, write_expr_of, write_elem_of, write_factor_number, write_factor_text, write_factor_nil, write_factor_place, write_factor_call, write_factor_group, write_factor_not, write_factor_set}
 use Rattle.expr_parser.proofs.FormedNodes.{formed_term_of, formed_simple_of, formed_expr_of, formed_elem_of, formed_factor_number, formed_factor_text, formed_factor_nil, formed_factor_place, formed_factor_call, formed_factor_group, formed_factor_not, formed_factor_set}
 use Rattle.expr_parser.proofs.ClassTokens.{identifier_is, number_is, text_is}
 use Rattle.expr_parser.proofs.Fillers.{nil_known, bracket_known, close_known}
-use Rattle.expr_parser.proofs.FollowedParts.{and_in, and_out}
+use Rattle.expr_parser.proofs.FollowedParts.{and_in}
 use Rattle.expr_parser.proofs.Openings.{Opening, within, in_counted, in_spanned, behind, before, Hole}
 use Rattle.expr_parser.proofs.Spots.{Answer, Spot, Reads, Good, spot_behind, spot_within, begins_at, deep_at}
 use Rattle.expr_parser.proofs.SoundTokens.{written_node, written_counted, written_both, written_token, written_name, answer_symbol, answer_begun, answer_word, answer_mark}
-use Rattle.expr_parser.proofs.SoundLists.{listed, ReadsList, list_sound}
+use Rattle.expr_parser.proofs.SoundLists.{listed, list_sound}
 use Rattle.expr_parser.proofs.SoundTerms.{reads_as, expr_by_sound}
-use Rattle.expr_parser.proofs.SoundPlaces.{write_opt, formed_opt, ReadsOptional, optional_sound, place_from_sound, args_sound}
+use Rattle.expr_parser.proofs.SoundPlaces.{write_opt, formed_opt, optional_sound, place_from_sound, args_sound}
 
 -- ---- parts that may stand where one is wanted
 

@@ -1,19 +1,19 @@
 -- Rows and lists of parts that are read.
-use Rattle.std.proofs.Common.{◌≡◌, ℕ, ◌+◌, ◌≤◌, max, Bool, true, false, ◌&&◌, List, [], ◌∷◌, ◌++◌, map, Ok, refl, sym, ap, subst, ◌∙◌, arith}
+use Rattle.std.proofs.Common.{◌≡◌, ℕ, ◌+◌, ◌≤◌, Bool, true, List, [], ◌∷◌, ◌++◌, map, Ok, refl, sym, ap, subst, ◌∙◌, arith}
 use Rattle.std.specs.Prelude.{IsTrue}
 use Rattle.p2c_text.specs.declared.dialect.Dialect.{Dialect}
 use Rattle.p2c_text.specs.declared.place.Span.{Span}
 use Rattle.dialect_lexer.specs.declared.token.Symbol.TheVariants as mark
 use Rattle.token_parsing.specs.Parser.{Parser, and_then, begins, repeat}
-use Rattle.token_parsing.proofs.Fair.{Fair, reads, fair_then, fair_repeat, fair_so}
-use Rattle.expr_parser.specs.Tokens.{Token, Placed, plain, Symbol}
-use Rattle.expr_parser.specs.Layout.{Layout, Done, ◌&◌, symbol, in_row, after_commas, with_commas, tokens_of, height_of, IsWritten}
+use Rattle.token_parsing.proofs.Fair.{reads, fair_then, fair_repeat, fair_so}
+use Rattle.expr_parser.specs.Tokens.{Placed, plain}
+use Rattle.expr_parser.specs.Layout.{Layout, ◌&◌, symbol, in_row, after_commas, with_commas, height_of, IsWritten}
 use Rattle.expr_parser.specs.Grammar.{AreTokens, all, some_all}
 use Rattle.expr_parser.specs.Classes.{symbols, expect}
 use Rattle.expr_parser.proofs.Layouts.{height_join, join_done, join_assoc, written_join}
 use Rattle.expr_parser.proofs.FollowedParts.{and_in, and_out}
-use Rattle.expr_parser.proofs.Openings.{Opening, within, behind, before, Hole}
-use Rattle.expr_parser.proofs.Spots.{Answer, Spot, Reads, Good, spot_behind, begins_at}
+use Rattle.expr_parser.proofs.Openings.{Opening, within, behind, Hole}
+use Rattle.expr_parser.proofs.Spots.{Answer, Spot, Reads, Good, spot_behind}
 use Rattle.expr_parser.proofs.SoundTokens.{answer_mark}
 
 -- ---- one more in a row or list

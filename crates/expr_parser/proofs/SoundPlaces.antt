@@ -1,5 +1,5 @@
 -- Places and arguments that are read.
-use Rattle.std.proofs.Common.{◌≡◌, ℕ, suc, ◌+◌, ◌≤◌, max, Bool, true, false, ◌&&◌, List, [], ◌∷◌, ◌++◌, map, Option, Some, None, Ok, refl, sym, ap, subst, ◌∙◌, arith}
+use Rattle.std.proofs.Common.{◌≡◌, ℕ, ◌+◌, ◌≤◌, Bool, true, false, ◌&&◌, List, [], ◌∷◌, ◌++◌, map, Option, Some, None, Ok, refl, sym, ap, subst, ◌∙◌, arith}
 use Rattle.std.specs.Prelude.{IsTrue}
 use Rattle.p2c_text.specs.declared.dialect.Dialect.{Dialect}
 use Rattle.p2c_text.specs.declared.place.Span.{Span}
@@ -10,16 +10,14 @@ use Rattle.dialect_lexer.specs.declared.token.Symbol.TheVariants as mark
 use Rattle.pascal_tree.specs.declared.names.Identifier.{Identifier}
 use Rattle.pascal_tree.specs.declared.expressions.Arg.{Arg}
 use Rattle.pascal_tree.specs.declared.expressions.Arg.TheVariants as arg
-use Rattle.pascal_tree.specs.declared.expressions.Args.{Args}
 use Rattle.pascal_tree.specs.declared.expressions.Expr.{Expr}
-use Rattle.pascal_tree.specs.declared.expressions.Place.{Place}
 use Rattle.pascal_tree.specs.declared.expressions.Selector.{Selector}
 use Rattle.pascal_tree.specs.declared.expressions.Selector.TheVariants as selector
 use Rattle.token_parsing.specs.Parser.{Outcome, Parser, and_then, begins}
-use Rattle.token_parsing.proofs.Fair.{Fair, reads, fair_then, fair_either, fair_so}
-use Rattle.expr_parser.specs.Tokens.{Token, Placed, plain, Name}
+use Rattle.token_parsing.proofs.Fair.{reads, fair_then, fair_either}
+use Rattle.expr_parser.specs.Tokens.{Placed, plain}
 use Rattle.expr_parser.specs.Spans.{span_between}
-use Rattle.expr_parser.specs.Layout.{Layout, Done, ◌&◌, symbol, word, spanned, in_row, with_commas, height_of, IsWritten}
+use Rattle.expr_parser.specs.Layout.{Layout, Done, ◌&◌, symbol, word, in_row, with_commas, height_of, IsWritten}
 use Rattle.expr_parser.specs.Writing.{identifier, optional_after as write_after, write_arg, write_args, write_expr, write_place, write_selector}
 use Rattle.expr_parser.specs.Grammar.{AreTokens, all, some_all, optional, formatted, formed_arg, formed_args, formed_expr, formed_place, formed_selector}
 use Rattle.expr_parser.specs.Classes.{identifiers, words, symbols, expect}
@@ -30,10 +28,10 @@ use Rattle.expr_parser.proofs.FormedNodes.{formed_optional, formed_place_of, for
 use Rattle.expr_parser.proofs.ClassTokens.{identifier_is}
 use Rattle.expr_parser.proofs.Fillers.{name_known, bracket_known, close_known}
 use Rattle.expr_parser.proofs.FollowedParts.{and_in, and_out}
-use Rattle.expr_parser.proofs.Openings.{Opening, within, in_counted, in_spanned, behind, before, Hole}
+use Rattle.expr_parser.proofs.Openings.{Opening, within, in_spanned, behind, before, Hole}
 use Rattle.expr_parser.proofs.Spots.{Answer, Spot, Reads, Good, spot_behind, spot_within, begins_at}
 use Rattle.expr_parser.proofs.SoundTokens.{written_node, written_name, answer_token, answer_symbol, answer_word, answer_mark}
-use Rattle.expr_parser.proofs.SoundLists.{listed, Pushed, row_sound, ReadsList, list_sound}
+use Rattle.expr_parser.proofs.SoundLists.{listed, Pushed, row_sound, list_sound}
 use Rattle.expr_parser.proofs.SoundTerms.{reads_as}
 
 module _ (d : Dialect) (end : Span) (outer levels : ℕ) (tokens : List Placed) (known : AreTokens d (plain tokens)) where

@@ -1,23 +1,18 @@
 -- Terms, sums and comparisons that are read.
-use Rattle.std.proofs.Common.{◌≡◌, ℕ, suc, ◌+◌, ◌≤◌, max, Bool, true, false, ◌&&◌, List, [], ◌∷◌, ◌++◌, map, Option, Some, None, Ok, refl, sym, ap, subst, ◌∙◌, arith}
+use Rattle.std.proofs.Common.{◌≡◌, ℕ, suc, ◌+◌, ◌≤◌, Bool, true, List, [], ◌∷◌, ◌++◌, map, Option, Some, None, refl, sym, ap, subst, ◌∙◌, arith}
 use Rattle.std.specs.Prelude.{IsTrue}
 use Rattle.p2c_text.specs.declared.dialect.Dialect.{Dialect}
 use Rattle.p2c_text.specs.declared.place.Span.{Span}
 use Rattle.pascal_tree.specs.declared.constants.Sign.{Sign}
-use Rattle.pascal_tree.specs.declared.expressions.Relation.{Relation}
-use Rattle.pascal_tree.specs.declared.expressions.Adding.{Adding}
-use Rattle.pascal_tree.specs.declared.expressions.Multiplying.{Multiplying}
 use Rattle.pascal_tree.specs.declared.expressions.AddedTerm.{AddedTerm}
-use Rattle.pascal_tree.specs.declared.expressions.Expr.{Expr}
 use Rattle.pascal_tree.specs.declared.expressions.Factor.{Factor}
 use Rattle.pascal_tree.specs.declared.expressions.MultipliedFactor.{MultipliedFactor}
-use Rattle.pascal_tree.specs.declared.expressions.Simple.{Simple}
 use Rattle.pascal_tree.specs.declared.expressions.Term.{Term}
 use Rattle.token_parsing.specs.Parser.{Outcome, Parser, begins}
-use Rattle.token_parsing.proofs.Fair.{Fair, reads, fair_then, fair_either}
-use Rattle.expr_parser.specs.Tokens.{Token, Placed, plain}
+use Rattle.token_parsing.proofs.Fair.{reads, fair_then, fair_either}
+use Rattle.expr_parser.specs.Tokens.{Placed, plain}
 use Rattle.expr_parser.specs.Spans.{span_between}
-use Rattle.expr_parser.specs.Layout.{Layout, Done, ◌&◌, token, spanned, counted, in_row, height_of, IsWritten}
+use Rattle.expr_parser.specs.Layout.{Layout, Done, ◌&◌, token, spanned, in_row, height_of, IsWritten}
 use Rattle.expr_parser.specs.Writing.{optional_sign as write_sign, sign_token, relation_token, adding_token, multiplying_token, write_added, write_expr, write_factor, write_multiplied, write_simple, write_term}
 use Rattle.expr_parser.specs.Grammar.{AreTokens, all, formed_added, formed_expr, formed_factor, formed_multiplied, formed_simple, formed_term}
 use Rattle.expr_parser.specs.Classes.{signs, relations, addings, multiplyings}
@@ -26,10 +21,10 @@ use Rattle.expr_parser.proofs.Layouts.{height_join, written_join}
 use Rattle.expr_parser.proofs.WrittenNodes.{write_right, write_term_of, write_multiplied_of, write_added_of, write_simple_of, write_expr_of}
 use Rattle.expr_parser.proofs.FormedNodes.{formed_right, formed_term_of, formed_multiplied_of, formed_added_of, formed_simple_of, formed_expr_of}
 use Rattle.expr_parser.proofs.ClassTokens.{sign_is, relation_is, adding_is, multiplying_is}
-use Rattle.expr_parser.proofs.FollowedParts.{and_in, and_out}
+use Rattle.expr_parser.proofs.FollowedParts.{and_in}
 use Rattle.expr_parser.proofs.Openings.{Opening, within, in_counted, in_spanned, behind, before, Hole}
 use Rattle.expr_parser.proofs.Spots.{Answer, Spot, Reads, Good, spot_behind, spot_within}
-use Rattle.expr_parser.proofs.SoundTokens.{written_node, written_counted, written_both, written_token, answer_begun}
+use Rattle.expr_parser.proofs.SoundTokens.{written_node, written_both, written_token, answer_begun}
 use Rattle.expr_parser.proofs.SoundLists.{Pushed, row_sound}
 
 module _ (d : Dialect) (end : Span) (outer levels : ℕ) (tokens : List Placed) (known : AreTokens d (plain tokens)) where

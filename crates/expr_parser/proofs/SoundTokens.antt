@@ -1,23 +1,21 @@
 -- Tokens that are read, and that what is before a refused one begins an expression.
-use Rattle.std.proofs.Common.{◌≡◌, ℕ, suc, ◌+◌, ◌-◌, ◌<◌, ◌≤◌, Bool, true, false, List, [], ◌∷◌, ◌++◌, length, Option, Some, None, Ok, Err, refl, sym, ap, subst, ◌∙◌, append_assoc, arith, lt-ltb}
+use Rattle.std.proofs.Common.{◌≡◌, ℕ, ◌-◌, Bool, true, false, List, [], ◌∷◌, length, Option, Some, None, refl, sym, ap, subst, ◌∙◌, arith, lt-ltb}
 use Rattle.std.specs.Prelude.{nat_lt, slice_get}
 use Rattle.std.specs.Option.{option_map}
-use Rattle.std.proofs.lemmas.List.{append-nil}
 use Rattle.p2c_text.specs.declared.dialect.Dialect.{Dialect}
 use Rattle.p2c_text.specs.declared.place.Span.{Span}
 use Rattle.dialect_lexer.specs.declared.token.Word.{Word as WordSymbol}
 use Rattle.dialect_lexer.specs.declared.token.Symbol.{Symbol as SpecialSymbol}
 use Rattle.pascal_tree.specs.declared.names.Identifier.{Identifier}
-use Rattle.token_parsing.specs.declared.refusal.Refusal.TheVariants.{Unexpected}
 use Rattle.token_parsing.specs.Parser.{Parser, Class, and_then, take_of, one_of, is_some, begins}
-use Rattle.token_parsing.proofs.Fair.{Fair, refuses}
-use Rattle.expr_parser.specs.Tokens.{Token, Placed, plain, Name, Word, Symbol}
+use Rattle.token_parsing.proofs.Fair.{refuses}
+use Rattle.expr_parser.specs.Tokens.{Token, Placed, Name, Word, Symbol}
 use Rattle.expr_parser.specs.Spans.{last_of, up_to_end, span_between}
 use Rattle.expr_parser.specs.Layout.{Layout, token, word, symbol, spanned, counted, IsWritten}
 use Rattle.expr_parser.specs.Writing.{identifier}
 use Rattle.expr_parser.specs.Text.{BeginsExpr}
-use Rattle.expr_parser.specs.Classes.{identifiers, words, symbols, expect, expect_word}
-use Rattle.expr_parser.proofs.ClassTokens.{symbol_is, word_is, identifier_is}
+use Rattle.expr_parser.specs.Classes.{words, symbols, expect, expect_word}
+use Rattle.expr_parser.proofs.ClassTokens.{symbol_is, word_is}
 use Rattle.expr_parser.proofs.Openings.{Opening}
 use Rattle.expr_parser.proofs.Spots.{Answer, Spot}
 

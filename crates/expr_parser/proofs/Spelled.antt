@@ -1,11 +1,6 @@
 -- How trees are spelled by their parts.
-use Rattle.std.proofs.Common.{◌≡◌, ℕ, ℤ, List, [], ◌∷◌, map, Option, Some, None, refl, ap, ◌∙◌}
-use Rattle.p2c_text.specs.declared.place.Span.{Span}
-use Rattle.dialect_lexer.specs.declared.token.Word.TheVariants as word_
-use Rattle.dialect_lexer.specs.declared.token.Symbol.{Symbol as SpecialSymbol}
+use Rattle.std.proofs.Common.{◌≡◌, List, ◌∷◌, map, ap, ◌∙◌}
 use Rattle.dialect_lexer.specs.declared.token.Symbol.TheVariants as mark
-use Rattle.pascal_tree.specs.declared.constants.Sign.{Sign}
-use Rattle.pascal_tree.specs.declared.expressions.Relation.{Relation}
 use Rattle.pascal_tree.specs.declared.expressions.AddedTerm.{AddedTerm, out-AddedTerm}
 use Rattle.pascal_tree.specs.declared.expressions.Args.{Args, out-Args}
 use Rattle.pascal_tree.specs.declared.expressions.Elem.{Elem, out-Elem}
@@ -16,7 +11,7 @@ use Rattle.pascal_tree.specs.declared.expressions.Simple.{Simple, out-Simple}
 use Rattle.pascal_tree.specs.declared.expressions.Term.{Term, out-Term}
 use Rattle.expr_parser.specs.Tokens.{Token, Name, Symbol}
 use Rattle.expr_parser.specs.Layout.{◌&◌, symbol, token, spanned, counted, in_row, with_commas}
-use Rattle.expr_parser.specs.Writing.{sign_token, relation_token, adding_token, multiplying_token, identifier, optional_sign, optional_after, write_added, write_arg, write_args, write_elem, write_expr, write_factor, write_multiplied, write_place, write_selector, write_simple, write_term}
+use Rattle.expr_parser.specs.Writing.{adding_token, multiplying_token, identifier, optional_sign, optional_after, write_added, write_arg, write_args, write_elem, write_expr, write_factor, write_multiplied, write_place, write_selector, write_simple, write_term}
 use Rattle.expr_parser.proofs.Layouts.{spell, spell_join}
 use Rattle.expr_parser.proofs.WrittenNodes.{write_right, write_optional, write_term_of, write_multiplied_of, write_added_of, write_simple_of, write_expr_of, write_elem_of, write_place_of, write_args_of}
 use Rattle.expr_parser.proofs.Views.{multiplied_is, term_is, added_is, simple_is, expr_is, elem_is, place_is, args_is}

@@ -1,7 +1,7 @@
 -- Where a parser stands in an expression that may still become one, and what its answers are there.
-use Rattle.std.proofs.Common.{◌≡◌, ℕ, suc, ◌+◌, ◌≤◌, Bool, List, [], ◌∷◌, ◌++◌, length, Err, refl, sym, ap, subst, ◌∙◌, append_assoc, arith}
+use Rattle.std.proofs.Common.{◌≡◌, ℕ, ◌+◌, ◌≤◌, Bool, List, [], ◌∷◌, ◌++◌, length, Err, refl, sym, ap, subst, ◌∙◌, append_assoc, arith}
 use Rattle.std.specs.Prelude.{IsTrue}
-use Rattle.std.specs.List.{AllByRecursion, Contains}
+use Rattle.std.specs.List.{Contains}
 use Rattle.std.proofs.lemmas.List.{append-nil, map-append}
 use Rattle.p2c_text.specs.declared.dialect.Dialect.{Dialect}
 use Rattle.p2c_text.specs.declared.place.Span.{Span}
@@ -9,12 +9,12 @@ use Rattle.token_parsing.specs.declared.refusal.Refusal.TheVariants.{TooDeep}
 use Rattle.token_parsing.specs.Parser.{Parser, Outcome}
 use Rattle.token_parsing.proofs.Fair.{Fair, stops}
 use Rattle.expr_parser.specs.Tokens.{Token, Placed, plain}
-use Rattle.expr_parser.specs.Layout.{Layout, ◌&◌, tokens_of, height_of, levels_of, IsWritten}
+use Rattle.expr_parser.specs.Layout.{Layout, tokens_of, height_of, levels_of, IsWritten}
 use Rattle.expr_parser.specs.Writing.{write_expr}
 use Rattle.expr_parser.specs.Grammar.{AreTokens}
 use Rattle.expr_parser.specs.Text.{BeginsExpr, MayBegin}
-use Rattle.expr_parser.proofs.Layouts.{Taken, written_taken}
-use Rattle.expr_parser.proofs.Openings.{Opening, within, behind, before, Hole, hole_begins}
+use Rattle.expr_parser.proofs.Layouts.{written_taken}
+use Rattle.expr_parser.proofs.Openings.{Opening, within, behind, Hole, hole_begins}
 
 pub are_both : (d : Dialect) (a b : List Token) → AreTokens d a → AreTokens d b → AreTokens d (a ++ b)
 are_both d [] b h k = k

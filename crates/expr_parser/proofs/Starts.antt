@@ -1,6 +1,5 @@
 -- With what expressions begin.
-use Rattle.std.proofs.Common.{◌≡◌, ℕ, Bool, true, false, List, [], ◌∷◌, map, Option, Some, None, refl, sym, subst}
-use Rattle.p2c_text.specs.declared.place.Span.{Span}
+use Rattle.std.proofs.Common.{◌≡◌, false, List, [], Option, Some, None, refl, sym, subst}
 use Rattle.dialect_lexer.specs.declared.token.Word.TheVariants as word
 use Rattle.dialect_lexer.specs.declared.token.Symbol.TheVariants as mark
 use Rattle.pascal_tree.specs.declared.constants.Sign.{Sign}
@@ -12,13 +11,13 @@ use Rattle.pascal_tree.specs.declared.expressions.Term.{Term, out-Term}
 use Rattle.expr_parser.specs.Tokens.{Token}
 use Rattle.expr_parser.specs.Layout.{Layout}
 use Rattle.expr_parser.specs.Classes.{same_word, same_symbol}
-use Rattle.expr_parser.specs.Writing.{optional_sign, write_expr, write_factor, write_place, write_simple, write_term}
+use Rattle.expr_parser.specs.Writing.{optional_sign, write_expr, write_factor, write_simple, write_term}
 use Rattle.expr_parser.proofs.Layouts.{spell}
 use Rattle.expr_parser.proofs.WrittenNodes.{write_factor_number, write_factor_text, write_factor_nil, write_factor_place, write_factor_call, write_factor_group, write_factor_not, write_factor_set}
 use Rattle.expr_parser.proofs.Spelled.{term_spelled, simple_spelled, expr_spelled, place_spelled}
-use Rattle.expr_parser.proofs.Views.{FactorCases, factor_cases}
+use Rattle.expr_parser.proofs.Views.{factor_cases}
 use Rattle.expr_parser.proofs.Followed.{on_first}
-use Rattle.expr_parser.proofs.Tests.{on_sign, on_symbol, on_word}
+use Rattle.expr_parser.proofs.Lookahead.{on_sign, on_symbol, on_word}
 
 -- some token, which ends no list of elements, and is no argument `program`
 pub record Starts (w : List Token) : Type 0 where

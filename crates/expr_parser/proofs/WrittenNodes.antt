@@ -1,5 +1,5 @@
 -- How each tree is written, by its parts as programs see them.
-use Rattle.std.proofs.Common.{◌≡◌, ℕ, ℤ, Bool, true, List, map, Option, Some, None, sym, ap, ◌∙◌}
+use Rattle.std.proofs.Common.{◌≡◌, ℕ, ℤ, List, map, Option, Some, None, sym, ap, ◌∙◌}
 use Rattle.p2c_text.specs.declared.place.Span.{Span}
 use Rattle.dialect_lexer.specs.declared.token.Word.TheVariants as word_
 use Rattle.dialect_lexer.specs.declared.token.Symbol.TheVariants as mark
@@ -11,18 +11,18 @@ use Rattle.pascal_tree.specs.declared.expressions.Multiplying.{Multiplying}
 use Rattle.pascal_tree.specs.declared.expressions.Arg.TheOpen as part
 use Rattle.pascal_tree.specs.declared.expressions.Arg.{Arg, roll-Arg, fold-roll-Arg}
 use Rattle.pascal_tree.specs.declared.expressions.Arg.TheVariants as arg
-use Rattle.pascal_tree.specs.declared.expressions.Factor.{Factor, roll-Factor, fold-roll-Factor}
+use Rattle.pascal_tree.specs.declared.expressions.Factor.{Factor, fold-roll-Factor}
 use Rattle.pascal_tree.specs.declared.expressions.Factor.TheVariants as factor
-use Rattle.pascal_tree.specs.declared.expressions.Selector.{Selector, roll-Selector, fold-roll-Selector}
+use Rattle.pascal_tree.specs.declared.expressions.Selector.{Selector, fold-roll-Selector}
 use Rattle.pascal_tree.specs.declared.expressions.Selector.TheVariants as selector
-use Rattle.pascal_tree.specs.declared.expressions.AddedTerm.{AddedTerm, roll-AddedTerm, fold-roll-AddedTerm}
-use Rattle.pascal_tree.specs.declared.expressions.Args.{Args, roll-Args, fold-roll-Args}
-use Rattle.pascal_tree.specs.declared.expressions.Elem.{Elem, roll-Elem, fold-roll-Elem}
-use Rattle.pascal_tree.specs.declared.expressions.Expr.{Expr, roll-Expr, fold-roll-Expr}
-use Rattle.pascal_tree.specs.declared.expressions.MultipliedFactor.{MultipliedFactor, roll-MultipliedFactor, fold-roll-MultipliedFactor}
-use Rattle.pascal_tree.specs.declared.expressions.Place.{Place, roll-Place, fold-roll-Place}
-use Rattle.pascal_tree.specs.declared.expressions.Simple.{Simple, roll-Simple, fold-roll-Simple}
-use Rattle.pascal_tree.specs.declared.expressions.Term.{Term, roll-Term, fold-roll-Term}
+use Rattle.pascal_tree.specs.declared.expressions.AddedTerm.{AddedTerm, fold-roll-AddedTerm}
+use Rattle.pascal_tree.specs.declared.expressions.Args.{Args, fold-roll-Args}
+use Rattle.pascal_tree.specs.declared.expressions.Elem.{Elem, fold-roll-Elem}
+use Rattle.pascal_tree.specs.declared.expressions.Expr.{Expr, fold-roll-Expr}
+use Rattle.pascal_tree.specs.declared.expressions.MultipliedFactor.{MultipliedFactor, fold-roll-MultipliedFactor}
+use Rattle.pascal_tree.specs.declared.expressions.Place.{Place, fold-roll-Place}
+use Rattle.pascal_tree.specs.declared.expressions.Simple.{Simple, fold-roll-Simple}
+use Rattle.pascal_tree.specs.declared.expressions.Term.{Term, fold-roll-Term}
 use Rattle.expr_parser.specs.Places.{place_of, args_of}
 use Rattle.expr_parser.specs.Factors.{elem_of}
 use Rattle.expr_parser.specs.Expressions.{multiplied_of, term_of, added_of, simple_of, expr_of}

@@ -1,5 +1,5 @@
 -- What the grammar asks of an expression beyond the way in which it is written.
-use Rattle.std.specs.Prelude.{◌≡◌, ℕ, Bool, true, false, ◌&&◌, IsTrue, List, [], ◌∷◌, Option, Some, None}
+use Rattle.std.specs.Prelude.{ℕ, Bool, true, false, ◌&&◌, IsTrue, List, [], ◌∷◌, Option, Some, None}
 use Rattle.std.specs.List.{AllByRecursion, Contains}
 use Rattle.p2c_text.specs.declared.dialect.Dialect.{Dialect}
 use Rattle.dialect_lexer.specs.Dialects.{is_ucsd}

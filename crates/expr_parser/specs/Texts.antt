@@ -1,5 +1,5 @@
 -- The bytes of a text as they are read one by one: numbers after `#` stop at 255.
-use Rattle.std.specs.Prelude.{ℕ, min, List, map}
+use Rattle.std.specs.Prelude.{ℕ, min}
 use Rattle.dialect_lexer.specs.declared.bytes.Base.TheVariants as base
 use Rattle.dialect_lexer.specs.Values as values
 use Rattle.dialect_lexer.specs.Values.{completed, completed_at_end}

@@ -1,5 +1,5 @@
 -- The grammar of expressions and places: how each node is written by its parts, with a line for each alternative.
-use Rattle.std.specs.Prelude.{List, Option, Some, None}
+use Rattle.std.specs.Prelude.{Option, Some, None}
 use Rattle.dialect_lexer.specs.declared.token.Word.TheVariants as word
 use Rattle.dialect_lexer.specs.declared.token.Symbol.{Symbol as SpecialSymbol}
 use Rattle.dialect_lexer.specs.declared.token.Symbol.TheVariants as mark

@@ -70,8 +70,17 @@ fn the_longest_run_is_read(rt: HostRuntime) {
 fn levels_end_at_four_hundred(rt: HostRuntime) {
     assert_eq!(rt; answer_of(rt.alloc(), Iso, "a", 399), Answer::Tokens(1, 1));
     assert_eq!(rt; answer_of(rt.alloc(), Iso, "a", 400), Answer::TooDeep(0));
-    assert_eq!(rt; answer_of(rt.alloc(), Iso, "(a)", 397), Answer::Tokens(3, 3));
+    assert_eq!(rt;
+        answer_of(rt.alloc(), Iso, "(a)", 397),
+        Answer::Tokens(3, 3)
+    );
     assert_eq!(rt; answer_of(rt.alloc(), Iso, "(a)", 398), Answer::TooDeep(1));
-    assert_eq!(rt; answer_of(rt.alloc(), Iso, "not a", 398), Answer::Tokens(2, 5));
-    assert_eq!(rt; answer_of(rt.alloc(), Iso, "not a", 399), Answer::TooDeep(4));
+    assert_eq!(rt;
+        answer_of(rt.alloc(), Iso, "not a", 398),
+        Answer::Tokens(2, 5)
+    );
+    assert_eq!(rt;
+        answer_of(rt.alloc(), Iso, "not a", 399),
+        Answer::TooDeep(4)
+    );
 }

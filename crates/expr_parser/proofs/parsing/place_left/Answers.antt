@@ -1,4 +1,4 @@
-use Rattle.std.proofs.Common.{◌≡◌, sym, ap, ◌∙◌, ◌-◌, length, drop, arith}
+use Rattle.std.proofs.Common.{◌≡◌, ap, ◌∙◌, ◌-◌, length, drop, arith}
 use Rattle.expr_parser.specs.Tokens.{seen}
 use Rattle.expr_parser.specs.Spans.{next_place}
 use Rattle.expr_parser.proofs.Turns.{seen_rest, seen_length}

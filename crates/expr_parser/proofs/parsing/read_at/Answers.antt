@@ -1,4 +1,4 @@
-use Rattle.std.proofs.Common.{◌≡◌, sym, ap, ◌∙◌, ◌-◌, length, drop, arith}
+use Rattle.std.proofs.Common.{sym, ap, ◌∙◌, arith}
 use Rattle.pascal_tree.specs.declared.expressions.Expr.{Expr}
 use Rattle.expr_parser.specs.Tokens.{seen}
 use Rattle.expr_parser.specs.Expressions.{expr}

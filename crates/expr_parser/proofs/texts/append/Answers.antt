@@ -1,4 +1,4 @@
-use Rattle.std.proofs.Common.{refl, sym}
+use Rattle.std.proofs.Common.{sym}
 use Rattle.dialect_lexer.proofs.Cutting.{first_and_after}
 use Rattle.expr_parser.proofs.Capped.{pushed}
 use Rattle.expr_parser.proofs.texts.append.Goals as goal

@@ -1,5 +1,5 @@
 -- What the tests of the next token see, and with which tokens parts begin and end.
-use Rattle.std.proofs.Common.{◌≡◌, ℕ, ℤ, Bool, true, false, ◌&&◌, List, [], ◌∷◌, Option, Some, None, refl, sym, ap, ◌∙◌}
+use Rattle.std.proofs.Common.{◌≡◌, ℕ, ℤ, Bool, true, false, ◌&&◌, List, [], ◌∷◌, Some, None, refl, ap, ◌∙◌}
 use denote.Enum.Bare.{true_same}
 use Rattle.p2c_text.specs.declared.dialect.Dialect.{Dialect}
 use Rattle.p2c_text.specs.declared.dialect.Dialect.TheVariants as dialect
@@ -20,7 +20,7 @@ use Rattle.pascal_tree.specs.declared.expressions.Adding.TheVariants as adding
 use Rattle.pascal_tree.specs.declared.expressions.Multiplying.{Multiplying}
 use Rattle.pascal_tree.specs.declared.expressions.Multiplying.TheVariants as multiplying
 use Rattle.token_parsing.specs.Parser.{is_some, begins}
-use Rattle.expr_parser.specs.Tokens.{Token, Placed, Name, Number, Text, Word, Symbol}
+use Rattle.expr_parser.specs.Tokens.{Token, Name, Number, Text, Word, Symbol}
 use Rattle.expr_parser.specs.Classes.{same_word, same_symbol, if_true, identifier_of, number_of, text_of, word_of, symbol_of, sign_of, relation_of_symbol, relation_of_word, adding_of_symbol, adding_of_word, multiplying_of_symbol, multiplying_of_word, operator_of, identifiers, numbers, texts, words, symbols, signs, relations, addings, multiplyings}
 use Rattle.expr_parser.specs.Writing.{sign_token, relation_token, adding_token, multiplying_token}
 use Rattle.expr_parser.specs.Places.{begins_selector, begins_program}
