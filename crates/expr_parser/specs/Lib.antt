@@ -1,0 +1,13 @@
+pub mod Tokens
+pub mod Texts
+pub mod Layout
+pub mod Writing
+pub mod Grammar
+pub mod Classes
+pub mod Spans
+pub mod Places
+pub mod Factors
+pub mod Expressions
+pub mod Text
+pub mod Parsed
+pub mod Laws

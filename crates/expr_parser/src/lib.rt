@@ -1,0 +1,22 @@
+//! The trees of expressions and places.
+//!
+//! A text is read by recursive descent. `specs/Expressions.antt` and the files below it say, as
+//! parsers of a few parts, what each production gives; each function states by one clause that it
+//! returns what its parser gives. How each tree is written, by tokens and by nodes with their spans,
+//! stands apart from that in `specs/Writing.antt`.
+#![tactic(auto)]
+
+pub mod descent;
+mod fault;
+pub mod laws;
+mod leaves;
+mod operators;
+pub mod parsing;
+pub mod source;
+pub mod step;
+#[cfg(test)]
+mod tests;
+mod texts;
+
+pub use fault::SyntaxFault;
+pub use parsing::expression;
