@@ -83,14 +83,14 @@ not_stopped {n} {k} _ (too_deep j h) e w = subst (λ z. z < limit n) (ap length_
 
 -- ---- what an answer says of all tokens
 
-first_spot : (d : Dialect) (end : Span) (outer levels : ℕ) (from : List Placed) → Spot d end outer levels from whole from
+first_spot : (d : Dialect) (end : Span) (outer levels : ℕ) (from : List Placed) → Spot d write_expr (formed_expr d) end outer levels from whole from
 first_spot d end outer levels from = record { front = []; is = refl; spelled = refl; known = tt; closing = tt }
 
-first_hole : (d : Dialect) → Hole d write_expr (formed_expr d) whole
+first_hole : (d : Dialect) → Hole d write_expr (formed_expr d) write_expr (formed_expr d) whole
 first_hole d = record { at = λ e ok. (e, ok, refl) }
 
-answered : (d : Dialect) (end : Span) (outer levels : ℕ) (from : List Placed) → AreTokens d (plain from) → Answer d end outer levels from (Reads d end outer levels from write_expr (formed_expr d) levels from) (expr d end levels from)
-answered d end outer levels from known = expr_sound d end outer levels from known levels whole from (first_spot d end outer levels from) (first_hole d) (omega arith)
+answered : (d : Dialect) (end : Span) (outer levels : ℕ) (from : List Placed) → AreTokens d (plain from) → Answer d write_expr (formed_expr d) end outer levels from (Reads d write_expr (formed_expr d) end outer levels from write_expr (formed_expr d) levels from) (expr d end levels from)
+answered d end outer levels from known = expr_sound d write_expr (formed_expr d) end outer levels from known levels whole from (first_spot d end outer levels from) (first_hole d) (omega arith)
 
 -- ---- what is read
 
@@ -103,14 +103,14 @@ abbrev left_of : Outcome Placed Expr → List Placed
 left_of (Ok p) = p.1
 left_of (Err f) = []
 
-read_by : {d : Dialect} {end : Span} {outer levels : ℕ} {from rest : List Placed} {e : Expr} (o : Outcome Placed Expr) → Answer d end outer levels from (Reads d end outer levels from write_expr (formed_expr d) levels from) o → o ≡ Ok (e, rest)
-    → Reads d end outer levels from write_expr (formed_expr d) levels from e rest
+read_by : {d : Dialect} {end : Span} {outer levels : ℕ} {from rest : List Placed} {e : Expr} (o : Outcome Placed Expr) → Answer d write_expr (formed_expr d) end outer levels from (Reads d write_expr (formed_expr d) end outer levels from write_expr (formed_expr d) levels from) o → o ≡ Ok (e, rest)
+    → Reads d write_expr (formed_expr d) end outer levels from write_expr (formed_expr d) levels from e rest
 read_by {d} {end} {outer} {levels} {from} {rest} {e} _ (reads a r h) is =
-    subst (λ z. Reads d end outer levels from write_expr (formed_expr d) levels from z rest) (ap (tree_of e) is) (subst (λ z. Reads d end outer levels from write_expr (formed_expr d) levels from a z) (ap left_of is) h)
+    subst (λ z. Reads d write_expr (formed_expr d) end outer levels from write_expr (formed_expr d) levels from z rest) (ap (tree_of e) is) (subst (λ z. Reads d write_expr (formed_expr d) end outer levels from write_expr (formed_expr d) levels from a z) (ap left_of is) h)
 read_by _ (refuses v bad is h) e = absurd cc
 read_by _ (stops v bad is h) e = absurd cc
 
-derives : (d : Dialect) (end : Span) (levels : ℕ) (from rest : List Placed) (e : Expr) → AreTokens d (plain from) → Reads d end 0 levels from write_expr (formed_expr d) levels from e rest → Derives d end levels e from rest × (run : List Placed) × (from ≡ run ++ rest) × (plain run ≡ tokens_of (write_expr e))
+derives : (d : Dialect) (end : Span) (levels : ℕ) (from rest : List Placed) (e : Expr) → AreTokens d (plain from) → Reads d write_expr (formed_expr d) end 0 levels from write_expr (formed_expr d) levels from e rest → Derives d end levels e from rest × (run : List Placed) × (from ≡ run ++ rest) × (plain run ≡ tokens_of (write_expr e))
 derives d end levels from rest e known h =
     let t = written_taken end (write_expr e) from rest h.written in
     let split : plain from ≡ tokens_of (write_expr e) ++ plain rest = ap plain t.is ∙ plain_join t.tokens rest ∙ ap (λ z. z ++ plain rest) t.are in
@@ -132,7 +132,7 @@ read_is_longest d end levels from rest e known is =
 
 -- ---- refusals
 
-refused_by : {d : Dialect} {end : Span} {outer levels left : ℕ} {from : List Placed} (o : Outcome Placed Expr) → Answer d end outer levels from (Reads d end outer levels from write_expr (formed_expr d) levels from) o → o ≡ Err (Unexpected left)
+refused_by : {d : Dialect} {end : Span} {outer levels left : ℕ} {from : List Placed} (o : Outcome Placed Expr) → Answer d write_expr (formed_expr d) end outer levels from (Reads d write_expr (formed_expr d) end outer levels from write_expr (formed_expr d) levels from) o → o ≡ Err (Unexpected left)
     → (run rest : List Placed) × (from ≡ run ++ rest) × BeginsExpr d (plain run) × (length rest ≡ left)
 refused_by _ (reads a r h) e = absurd cc
 refused_by _ (refuses v bad is h) e = (v, bad, is, h, ap length_of e)
@@ -158,7 +158,7 @@ unexpected_is_after d end levels left from known is =
 
 -- ---- what is too deep
 
-stopped_by : {d : Dialect} {end : Span} {outer levels left : ℕ} {from : List Placed} (o : Outcome Placed Expr) → Answer d end outer levels from (Reads d end outer levels from write_expr (formed_expr d) levels from) o → o ≡ Err (TooDeep left)
+stopped_by : {d : Dialect} {end : Span} {outer levels left : ℕ} {from : List Placed} (o : Outcome Placed Expr) → Answer d write_expr (formed_expr d) end outer levels from (Reads d write_expr (formed_expr d) end outer levels from write_expr (formed_expr d) levels from) o → o ≡ Err (TooDeep left)
     → (front bad : List Placed) × (from ≡ front ++ bad) × (length bad ≡ left) × MayBegin d outer (outer + levels) (plain front)
 stopped_by _ (reads a r h) e = absurd cc
 stopped_by _ (refuses v bad is h) e = absurd cc
@@ -174,7 +174,9 @@ longer_front (x ∷ run) rest (y ∷ front) bad e below =
     let tails : run ++ rest ≡ front ++ bad = cc in
     let heads : x ≡ y = cc in
     let (t, more, between, is, split) = longer_front run rest front bad tails below in
-    (t, more, between, is, ap (λ z. z ∷ front) (sym heads) ∙ ap (λ z. x ∷ z) split)
+    let first : y ∷ front ≡ x ∷ front = ap (λ z. z ∷ front) (sym heads) in
+    let others : x ∷ front ≡ x ∷ ((run ++ t ∷ []) ++ between) = ap (λ z. x ∷ z) split in
+    (t, more, between, is, first ∙ others)
 
 -- what may begin behind the tokens is behind those with which an expression begins
 begins_before : (d : Dialect) (front : List Token) (a b : List Token) (outer level : ℕ) → front ≡ a ++ b → MayBegin d outer level front → BeginsExpr d a

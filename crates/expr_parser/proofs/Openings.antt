@@ -1,4 +1,4 @@
--- Places in expressions where any part of some kind may stand.
+-- Places in trees where any part of some kind may stand.
 use Rattle.std.proofs.Common.{◌≡◌, ℕ, suc, ◌+◌, List, [], ◌∷◌, ◌++◌, length, refl, sym, ap, subst, ◌∙◌, append_assoc, arith, length-append}
 use Rattle.std.specs.Prelude.{IsTrue, Bool}
 use Rattle.std.specs.List.{Contains}
@@ -6,12 +6,10 @@ use Rattle.std.proofs.lemmas.List.{append-nil}
 use Rattle.std.proofs.lemmas.List.Elements.{Contains-append_left, Contains-append_right}
 use Rattle.p2c_text.specs.declared.dialect.Dialect.{Dialect}
 use Rattle.p2c_text.specs.declared.place.Span.{Span}
-use Rattle.pascal_tree.specs.declared.expressions.Expr.{Expr}
 use Rattle.expr_parser.specs.Tokens.{Token}
 use Rattle.expr_parser.specs.Layout.{Layout, ◌&◌, spanned, counted, tokens_of, levels_of}
-use Rattle.expr_parser.specs.Writing.{write_expr}
-use Rattle.expr_parser.specs.Grammar.{AreTokens, formed_expr}
-use Rattle.expr_parser.specs.Text.{BeginsExpr}
+use Rattle.expr_parser.specs.Grammar.{AreTokens}
+use Rattle.expr_parser.specs.Text.{Begins}
 use Rattle.expr_parser.proofs.Layouts.{tokens_join, levels_join}
 
 -- a layout with one part left open: the tokens on both sides of it, and how many counted nodes are around it
@@ -100,14 +98,14 @@ before b = record {
 
 -- ---- holes
 
--- whatever stands in the opening, the whole is the layout of an expression
-pub record Hole {A : Type 0} (d : Dialect) (write : A → Layout) (formed : A → Bool) (o : Opening) : Type 0 where
-  pub at : (a : A) → IsTrue (formed a) → (c : Expr) × IsTrue (formed_expr d c) × (write_expr c ≡ o.plug (write a))
+-- whatever stands in the opening, the whole is the layout of a tree of some kind
+pub record Hole {C A : Type 0} (d : Dialect) (layout : C → Layout) (form : C → Bool) (write : A → Layout) (formed : A → Bool) (o : Opening) : Type 0 where
+  pub at : (a : A) → IsTrue (formed a) → (c : C) × IsTrue (form c) × (layout c ≡ o.plug (write a))
 
--- an expression begins with the tokens before some place in what stands in the opening
-pub hole_begins : {A : Type 0} {d : Dialect} {write : A → Layout} {formed : A → Bool} (o : Opening) → Hole d write formed o → (a : A) → IsTrue (formed a) → (v more : List Token)
-    → AreTokens d (v ++ more) → o.left ++ (tokens_of (write a) ++ o.right) ≡ v ++ more → BeginsExpr d v
-hole_begins {d} {write} o hole a ok v more are is =
+-- a tree begins with the tokens before some place in what stands in the opening
+pub hole_begins : {C A : Type 0} {d : Dialect} {layout : C → Layout} {form : C → Bool} {write : A → Layout} {formed : A → Bool} (o : Opening) → Hole d layout form write formed o → (a : A) → IsTrue (formed a) → (v more : List Token)
+    → AreTokens d (v ++ more) → o.left ++ (tokens_of (write a) ++ o.right) ≡ v ++ more → Begins d layout form v
+hole_begins {d} {layout} {write} o hole a ok v more are is =
     let (c, formed, written) = hole.at a ok in
-    let spelled : tokens_of (write_expr c) ≡ v ++ more = ap tokens_of written ∙ o.tokens (write a) ∙ is in
+    let spelled : tokens_of (layout c) ≡ v ++ more = ap tokens_of written ∙ o.tokens (write a) ∙ is in
     (c, more, record { formed = formed; of_dialect = subst (AreTokens d) (sym spelled) are }, spelled)

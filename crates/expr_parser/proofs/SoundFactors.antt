@@ -54,24 +54,24 @@ nil_expr_formed d =
     formed_expr_of d (simple_of None (term_of nil_factor [] no_span) [] no_span) None no_span ∙ ap (λ b. b && true)
     (formed_simple_of d None (term_of nil_factor [] no_span) [] no_span ∙ ap (λ b. b && true) (formed_term_of d nil_factor [] no_span ∙ ap (λ b. b && true) (formed_factor_nil d no_span)))
 
-module _ (d : Dialect) (end : Span) (outer levels : ℕ) (tokens : List Placed) (known : AreTokens d (plain tokens)) where
+module _ (d : Dialect) {C : Type 0} (layout : C → Layout) (form : C → Bool) (end : Span) (outer levels : ℕ) (tokens : List Placed) (known : AreTokens d (plain tokens)) where
   abbrev AnswerT : {A : Type 0} → (A → List Placed → Type 0) → Outcome Placed A → Type 0
-  AnswerT P o = Answer d end outer levels tokens P o
+  AnswerT P o = Answer d layout form end outer levels tokens P o
 
   abbrev SpotT : Opening → List Placed → Type 0
-  SpotT o s = Spot d end outer levels tokens o s
+  SpotT o s = Spot d layout form end outer levels tokens o s
 
   abbrev ReadsT : {A : Type 0} → (A → Layout) → (A → Bool) → ℕ → List Placed → A → List Placed → Type 0
-  ReadsT write formed k s a r = Reads d end outer levels tokens write formed k s a r
+  ReadsT write formed k s a r = Reads d layout form end outer levels tokens write formed k s a r
 
   abbrev GoodT : {A : Type 0} → (A → Layout) → (A → Bool) → ℕ → Parser Placed A → Type 0
-  GoodT write formed k p = Good d end outer levels tokens write formed k p
+  GoodT write formed k p = Good d layout form end outer levels tokens write formed k p
 
   abbrev moved : {o : Opening} {s r : List Placed} (l : Layout) → SpotT o s → IsWritten end l s r → SpotT (within o (behind l)) r
-  moved l spot w = spot_behind d end outer levels tokens known l spot w
+  moved l spot w = spot_behind d layout form end outer levels tokens known l spot w
 
   abbrev entered : {o : Opening} {s : List Placed} (p : Opening) → SpotT o s → p.left ≡ [] → AreTokens d p.right → SpotT (within o p) s
-  entered p spot none closing = spot_within d end outer levels tokens p spot none closing
+  entered p spot none closing = spot_within d layout form end outer levels tokens p spot none closing
 
   module _ (k : ℕ) (child : Parser Placed Expr) (good : GoodT write_expr (formed_expr d) k child) where
     -- ---- elements of sets
@@ -81,16 +81,16 @@ module _ (d : Dialect) (end : Span) (outer levels : ℕ) (tokens : List Placed) 
     elem_sound o s spot hole deep =
         let inside = within o (in_spanned end) in
         let spot1 = entered (in_spanned end) spot refl tt in
-        let hole1 : Hole d write_expr (formed_expr d) (within inside (before Done)) =
+        let hole1 : Hole d layout form write_expr (formed_expr d) (within inside (before Done)) =
         record { at = λ a ok. let (c, g, e) = hole.at (elem_of a None end) (formed_elem_of d a None end ∙ and_in (formed_expr d a) true ok refl) in (c, g, e ∙ ap o.plug (write_elem_of a None end)) } in
         fair_then (good (within inside (before Done)) s (entered (before Done) spot1 refl tt) hole1 (omega (arith, deep))) (λ a r h.
         let behind_first = within inside (behind (write_expr a)) in
-        let hole2 : Hole d (λ b. write_opt d end outer levels tokens known k child good mark.DotDot b) (λ b. formed_opt d end outer levels tokens known k child good b) behind_first =
+        let hole2 : Hole d layout form (λ b. write_opt d layout form end outer levels tokens known k child good mark.DotDot b) (λ b. formed_opt d layout form end outer levels tokens known k child good b) behind_first =
         record { at = λ b ok. let (c, g, e) = hole.at (elem_of a b end) (formed_elem_of d a b end ∙ and_in (formed_expr d a) _ h.formed ok) in (c, g, e ∙ ap o.plug (write_elem_of a b end)) } in
-        fair_then (optional_sound d end outer levels tokens known k child good mark.DotDot behind_first r (moved (write_expr a) spot1 h.written) hole2 (omega (arith, deep))) (λ b r2 g.
-        let last = write_opt d end outer levels tokens known k child good mark.DotDot b in
+        fair_then (optional_sound d layout form end outer levels tokens known k child good mark.DotDot behind_first r (moved (write_expr a) spot1 h.written) hole2 (omega (arith, deep))) (λ b r2 g.
+        let last = write_opt d layout form end outer levels tokens known k child good mark.DotDot b in
         let span = span_between end s r2 in let x = h.fits in let y = g.is.fits in
-        reads (elem_of a b span) r2 (reads_as d end outer levels tokens known (write_elem_of a b span) (formed_elem_of d a b span)
+        reads (elem_of a b span) r2 (reads_as d layout form end outer levels tokens known (write_elem_of a b span) (formed_elem_of d a b span)
         (written_node end (write_expr a & last) _ _ (written_join end (write_expr a) last s r r2 h.written g.is.written)) (and_in (formed_expr d a) _ h.formed g.is.formed) (omega (arith, height_join (write_expr a) last, x, y)))))
 
     abbrev write_elems : List Elem → Layout
@@ -103,7 +103,7 @@ module _ (d : Dialect) (end : Span) (outer levels : ℕ) (tokens : List Placed) 
     unfolding elems some_elems more_elems next_elem
     elems_sound o s spot hole deep = fair_either (begins (symbols mark.CloseBracket) s)
         (λ test. reads [] s (record { written = refl; formed = refl; fits = omega arith }))
-        (λ test. fair_so (list_sound d end outer levels tokens known write_elem (formed_elem d) k (elem end child) elem_sound o s spot (record { at = λ p ok. hole.at (listed p) ok }) deep)
+        (λ test. fair_so (list_sound d layout form end outer levels tokens known write_elem (formed_elem d) k (elem end child) elem_sound o s spot (record { at = λ p ok. hole.at (listed p) ok }) deep)
         (λ xs r h. subst (λ z. ReadsT write_elems formed_elems k s z r) (sym h.is) (some_read h.first h.others r h.reads)))
       where
         some_read : (x : Elem) (xs : List Elem) (r : List Placed) → ReadsT (λ p. with_commas (map write_elem (listed p))) (λ p. some_all (map (formed_elem d) (listed p))) k s (x, xs) r → ReadsT write_elems formed_elems k s (x ∷ xs) r
@@ -116,88 +116,88 @@ module _ (d : Dialect) (end : Span) (outer levels : ℕ) (tokens : List Placed) 
 
     number_sound : (s : List Placed) → begins numbers s ≡ true → AnswerT (ReadsT write_factor (formed_factor d) (suc k) s) (number end s)
     unfolding number
-    number_sound s test = answer_begun d end outer levels tokens numbers s test (λ t v r is e.
+    number_sound s test = answer_begun d layout form end outer levels tokens numbers s test (λ t v r is e.
         let span = span_between end s r in
-        reads (factor_.Number v span) r (reads_as d end outer levels tokens known (write_factor_number v span) (formed_factor_number d v span)
+        reads (factor_.Number v span) r (reads_as d layout form end outer levels tokens known (write_factor_number v span) (formed_factor_number d v span)
         (written_both end (token (Number v)) _ _ (written_token end (Number v) t r e (number_is t.token v is))) refl (omega arith)))
 
     text_sound : (s : List Placed) → begins texts s ≡ true → AnswerT (ReadsT write_factor (formed_factor d) (suc k) s) (text end s)
     unfolding text
-    text_sound s test = answer_begun d end outer levels tokens texts s test (λ t bs r is e.
+    text_sound s test = answer_begun d layout form end outer levels tokens texts s test (λ t bs r is e.
         let span = span_between end s r in
-        reads (factor_.Text bs span) r (reads_as d end outer levels tokens known (write_factor_text bs span) (formed_factor_text d bs span)
+        reads (factor_.Text bs span) r (reads_as d layout form end outer levels tokens known (write_factor_text bs span) (formed_factor_text d bs span)
         (written_both end (token (Text bs)) _ _ (written_token end (Text bs) t r e (text_is t.token bs is))) refl (omega arith)))
 
     nil_sound : (s : List Placed) → begins (words word_.KwNil) s ≡ true → AnswerT (ReadsT write_factor (formed_factor d) (suc k) s) (nil end s)
     unfolding nil
-    nil_sound s test = answer_word d end outer levels tokens word_.KwNil s test (λ _ r w.
+    nil_sound s test = answer_word d layout form end outer levels tokens word_.KwNil s test (λ _ r w.
         let span = span_between end s r in
-        reads (factor_.Nil span) r (reads_as d end outer levels tokens known (write_factor_nil span) (formed_factor_nil d span) (written_both end (word word_.KwNil) _ _ w) refl (omega arith)))
+        reads (factor_.Nil span) r (reads_as d layout form end outer levels tokens known (write_factor_nil span) (formed_factor_nil d span) (written_both end (word word_.KwNil) _ _ w) refl (omega arith)))
 
-    named_sound : (o : Opening) (s : List Placed) → SpotT o s → Hole d write_factor (formed_factor d) o → o.depth + suc k ≡ levels → begins identifiers s ≡ true → AnswerT (ReadsT write_factor (formed_factor d) (suc k) s) (named d end child s)
+    named_sound : (o : Opening) (s : List Placed) → SpotT o s → Hole d layout form write_factor (formed_factor d) o → o.depth + suc k ≡ levels → begins identifiers s ≡ true → AnswerT (ReadsT write_factor (formed_factor d) (suc k) s) (named d end child s)
     unfolding named call read_place
-    named_sound o s spot hole deep test = answer_begun d end outer levels tokens identifiers s test (λ t i r is e.
+    named_sound o s spot hole deep test = answer_begun d layout form end outer levels tokens identifiers s test (λ t i r is e.
         let w0 = written_name end i t r e (identifier_is t.token t.span i is) in
         fair_either (begins (symbols mark.Open) r)
         (λ opens.
         let after = within (within o node) (behind (identifier i)) in
-        let hole1 : Hole d write_args (formed_args d) after = record { at = λ a ok. let (c, g, w) = hole.at (factor_.Call i a end) (formed_factor_call d i a end ∙ ok) in (c, g, w ∙ ap o.plug (write_factor_call i a end)) } in
-        fair_then (args_sound d end outer levels tokens known k child good after r (moved (identifier i) (entered node spot refl tt) w0) hole1 (omega (arith, deep)) opens) (λ a r2 h.
+        let hole1 : Hole d layout form write_args (formed_args d) after = record { at = λ a ok. let (c, g, w) = hole.at (factor_.Call i a end) (formed_factor_call d i a end ∙ ok) in (c, g, w ∙ ap o.plug (write_factor_call i a end)) } in
+        fair_then (args_sound d layout form end outer levels tokens known k child good after r (moved (identifier i) (entered node spot refl tt) w0) hole1 (omega (arith, deep)) opens) (λ a r2 h.
         let span = span_between end s r2 in let fits = h.fits in
-        reads (factor_.Call i a span) r2 (reads_as d end outer levels tokens known (write_factor_call i a span) (formed_factor_call d i a span)
+        reads (factor_.Call i a span) r2 (reads_as d layout form end outer levels tokens known (write_factor_call i a span) (formed_factor_call d i a span)
         (written_both end (identifier i & write_args a) _ _ (written_join end (identifier i) (write_args a) s r r2 w0 h.written)) h.formed (omega (arith, fits)))))
         (λ none.
-        let hole1 : Hole d write_place (formed_place d) (within o in_counted) = record { at = λ p ok. let (c, g, w) = hole.at (factor_.Place p) (formed_factor_place d p ∙ ok) in (c, g, w ∙ ap o.plug (write_factor_place p)) } in
-        fair_then (place_from_sound d end outer levels tokens known k child good (within o in_counted) s (entered in_counted spot refl tt) hole1 (omega (arith, deep)) i r w0) (λ p r2 h.
+        let hole1 : Hole d layout form write_place (formed_place d) (within o in_counted) = record { at = λ p ok. let (c, g, w) = hole.at (factor_.Place p) (formed_factor_place d p ∙ ok) in (c, g, w ∙ ap o.plug (write_factor_place p)) } in
+        fair_then (place_from_sound d layout form end outer levels tokens known k child good (within o in_counted) s (entered in_counted spot refl tt) hole1 (omega (arith, deep)) i r w0) (λ p r2 h.
         let fits = h.fits in
-        reads (factor_.Place p) r2 (reads_as d end outer levels tokens known (write_factor_place p) (formed_factor_place d p) (written_counted end (write_place p) _ _ h.written) h.formed (omega (arith, fits))))))
+        reads (factor_.Place p) r2 (reads_as d layout form end outer levels tokens known (write_factor_place p) (formed_factor_place d p) (written_counted end (write_place p) _ _ h.written) h.formed (omega (arith, fits))))))
 
-    group_sound : (o : Opening) (s : List Placed) → SpotT o s → Hole d write_factor (formed_factor d) o → o.depth + suc k ≡ levels → begins (symbols mark.Open) s ≡ true → AnswerT (ReadsT write_factor (formed_factor d) (suc k) s) (group end child s)
+    group_sound : (o : Opening) (s : List Placed) → SpotT o s → Hole d layout form write_factor (formed_factor d) o → o.depth + suc k ≡ levels → begins (symbols mark.Open) s ≡ true → AnswerT (ReadsT write_factor (formed_factor d) (suc k) s) (group end child s)
     unfolding group
-    group_sound o s spot hole deep test = answer_mark d end outer levels tokens mark.Open s test (λ _ r1 w1.
+    group_sound o s spot hole deep test = answer_mark d layout form end outer levels tokens mark.Open s test (λ _ r1 w1.
         let opened = within (within o node) (behind (symbol mark.Open)) in
         let spot2 = moved (symbol mark.Open) (entered node spot refl tt) w1 in
-        let hole3 : Hole d write_expr (formed_expr d) (within opened (before (symbol mark.Close))) =
+        let hole3 : Hole d layout form write_expr (formed_expr d) (within opened (before (symbol mark.Close))) =
         record { at = λ e ok. let (c, g, w) = hole.at (factor_.Group e end) (formed_factor_group d e end ∙ ok) in (c, g, w ∙ ap o.plug (write_factor_group e end)) } in
         fair_then (good (within opened (before (symbol mark.Close))) r1 (entered (before (symbol mark.Close)) spot2 refl (close_known d, tt)) hole3 (omega (arith, deep))) (λ e r2 h.
-        let hole4 : Hole {A = Unit {0}} d (λ _. symbol mark.Close) (λ _. true) (within opened (behind (write_expr e))) = record { at = λ _ ok. hole3.at e h.formed } in
+        let hole4 : Hole {A = Unit {0}} d layout form (λ _. symbol mark.Close) (λ _. true) (within opened (behind (write_expr e))) = record { at = λ _ ok. hole3.at e h.formed } in
         let spot4 = moved (write_expr e) spot2 h.written in
-        answer_symbol d end outer levels tokens mark.Close r2 spot4 (begins_at d end outer levels tokens spot4 hole4 tt refl (close_known d, tt)) (λ _ r3 w3.
+        answer_symbol d layout form end outer levels tokens mark.Close r2 spot4 (begins_at d layout form end outer levels tokens spot4 hole4 tt refl (close_known d, tt)) (λ _ r3 w3.
         let span = span_between end s r3 in let fits = h.fits in
-        reads (factor_.Group e span) r3 (reads_as d end outer levels tokens known (write_factor_group e span) (formed_factor_group d e span)
+        reads (factor_.Group e span) r3 (reads_as d layout form end outer levels tokens known (write_factor_group e span) (formed_factor_group d e span)
         (written_both end (symbol mark.Open & write_expr e & symbol mark.Close) _ _
         (written_join end (symbol mark.Open) (write_expr e & symbol mark.Close) s r1 r3 w1 (written_join end (write_expr e) (symbol mark.Close) r1 r2 r3 h.written w3)))
         h.formed (omega (arith, height_join (write_expr e) (symbol mark.Close), fits))))))
 
-    set_sound : (o : Opening) (s : List Placed) → SpotT o s → Hole d write_factor (formed_factor d) o → o.depth + suc k ≡ levels → AnswerT (ReadsT write_factor (formed_factor d) (suc k) s) (set end child s)
+    set_sound : (o : Opening) (s : List Placed) → SpotT o s → Hole d layout form write_factor (formed_factor d) o → o.depth + suc k ≡ levels → AnswerT (ReadsT write_factor (formed_factor d) (suc k) s) (set end child s)
     unfolding set
     set_sound o s spot hole deep =
-        let here = begins_at d end outer levels tokens spot hole nil_factor (formed_factor_nil d no_span) (subst (λ l. AreTokens d (tokens_of l)) (sym (write_factor_nil no_span)) (nil_known d, tt)) in
-        answer_symbol d end outer levels tokens mark.OpenBracket s spot here (λ _ r1 w1.
+        let here = begins_at d layout form end outer levels tokens spot hole nil_factor (formed_factor_nil d no_span) (subst (λ l. AreTokens d (tokens_of l)) (sym (write_factor_nil no_span)) (nil_known d, tt)) in
+        answer_symbol d layout form end outer levels tokens mark.OpenBracket s spot here (λ _ r1 w1.
         let opened = within (within o node) (behind (symbol mark.OpenBracket)) in
         let spot2 = moved (symbol mark.OpenBracket) (entered node spot refl tt) w1 in
-        let hole3 : Hole d write_elems formed_elems (within opened (before (symbol mark.CloseBracket))) =
+        let hole3 : Hole d layout form write_elems formed_elems (within opened (before (symbol mark.CloseBracket))) =
         record { at = λ xs ok. let (c, g, w) = hole.at (factor_.Set xs end) (formed_factor_set d xs end ∙ ok) in (c, g, w ∙ ap o.plug (write_factor_set xs end)) } in
         fair_then (elems_sound (within opened (before (symbol mark.CloseBracket))) r1 (entered (before (symbol mark.CloseBracket)) spot2 refl (bracket_known d, tt)) hole3 (omega (arith, deep))) (λ xs r2 h.
         let list = write_elems xs in
-        let hole4 : Hole {A = Unit {0}} d (λ _. symbol mark.CloseBracket) (λ _. true) (within opened (behind list)) = record { at = λ _ ok. hole3.at xs h.formed } in
+        let hole4 : Hole {A = Unit {0}} d layout form (λ _. symbol mark.CloseBracket) (λ _. true) (within opened (behind list)) = record { at = λ _ ok. hole3.at xs h.formed } in
         let spot4 = moved list spot2 h.written in
-        answer_symbol d end outer levels tokens mark.CloseBracket r2 spot4 (begins_at d end outer levels tokens spot4 hole4 tt refl (bracket_known d, tt)) (λ _ r3 w3.
+        answer_symbol d layout form end outer levels tokens mark.CloseBracket r2 spot4 (begins_at d layout form end outer levels tokens spot4 hole4 tt refl (bracket_known d, tt)) (λ _ r3 w3.
         let span = span_between end s r3 in let fits = h.fits in
-        reads (factor_.Set xs span) r3 (reads_as d end outer levels tokens known (write_factor_set xs span) (formed_factor_set d xs span)
+        reads (factor_.Set xs span) r3 (reads_as d layout form end outer levels tokens known (write_factor_set xs span) (formed_factor_set d xs span)
         (written_both end (symbol mark.OpenBracket & list & symbol mark.CloseBracket) _ _
         (written_join end (symbol mark.OpenBracket) (list & symbol mark.CloseBracket) s r1 r3 w1 (written_join end list (symbol mark.CloseBracket) r1 r2 r3 h.written w3)))
         h.formed (omega (arith, height_join list (symbol mark.CloseBracket), fits))))))
 
     module _ (inner : Parser Placed Factor) (inner_good : GoodT write_factor (formed_factor d) k inner) where
-      negation_sound : (o : Opening) (s : List Placed) → SpotT o s → Hole d write_factor (formed_factor d) o → o.depth + suc k ≡ levels → begins (words word_.KwNot) s ≡ true → AnswerT (ReadsT write_factor (formed_factor d) (suc k) s) (negation end inner s)
+      negation_sound : (o : Opening) (s : List Placed) → SpotT o s → Hole d layout form write_factor (formed_factor d) o → o.depth + suc k ≡ levels → begins (words word_.KwNot) s ≡ true → AnswerT (ReadsT write_factor (formed_factor d) (suc k) s) (negation end inner s)
       unfolding negation
-      negation_sound o s spot hole deep test = answer_word d end outer levels tokens word_.KwNot s test (λ _ r1 w1.
+      negation_sound o s spot hole deep test = answer_word d layout form end outer levels tokens word_.KwNot s test (λ _ r1 w1.
           let opened = within (within o node) (behind (word word_.KwNot)) in
-          let hole2 : Hole d write_factor (formed_factor d) opened = record { at = λ f ok. let (c, g, w) = hole.at (factor_.Not f end) (formed_factor_not d f end ∙ ok) in (c, g, w ∙ ap o.plug (write_factor_not f end)) } in
+          let hole2 : Hole d layout form write_factor (formed_factor d) opened = record { at = λ f ok. let (c, g, w) = hole.at (factor_.Not f end) (formed_factor_not d f end ∙ ok) in (c, g, w ∙ ap o.plug (write_factor_not f end)) } in
           fair_then (inner_good opened r1 (moved (word word_.KwNot) (entered node spot refl tt) w1) hole2 (omega (arith, deep))) (λ f r2 h.
           let span = span_between end s r2 in let fits = h.fits in
-          reads (factor_.Not f span) r2 (reads_as d end outer levels tokens known (write_factor_not f span) (formed_factor_not d f span)
+          reads (factor_.Not f span) r2 (reads_as d layout form end outer levels tokens known (write_factor_not f span) (formed_factor_not d f span)
           (written_both end (word word_.KwNot & write_factor f) _ _ (written_join end (word word_.KwNot) (write_factor f) s r1 r2 w1 h.written)) h.formed (omega (arith, fits)))))
 
       pub factor_by_sound : GoodT write_factor (formed_factor d) (suc k) (factor_by d end child inner)
@@ -215,13 +215,13 @@ module _ (d : Dialect) (end : Span) (outer levels : ℕ) (tokens : List Placed) 
   expr_stops : GoodT write_expr (formed_expr d) 0 (expr d end 0)
   unfolding expr
   expr_stops o s spot hole deep =
-      deep_at d end outer levels tokens spot hole deep nil_expr (nil_expr_formed d) (subst (λ l. AreTokens d (tokens_of l)) (sym nil_expr_written) (nil_known d, tt))
+      deep_at d layout form end outer levels tokens spot hole deep nil_expr (nil_expr_formed d) (subst (λ l. AreTokens d (tokens_of l)) (sym nil_expr_written) (nil_known d, tt))
       (subst (λ l. Contains (levels_of (outer + o.depth) (0 + length o.left) l) (0 + length o.left, outer + o.depth)) (sym nil_expr_written) (0, omega arith, refl))
 
   factor_stops : GoodT write_factor (formed_factor d) 0 (factor d end 0)
   unfolding factor
   factor_stops o s spot hole deep =
-      deep_at d end outer levels tokens spot hole deep nil_factor (formed_factor_nil d no_span) (subst (λ l. AreTokens d (tokens_of l)) (sym (write_factor_nil no_span)) (nil_known d, tt))
+      deep_at d layout form end outer levels tokens spot hole deep nil_factor (formed_factor_nil d no_span) (subst (λ l. AreTokens d (tokens_of l)) (sym (write_factor_nil no_span)) (nil_known d, tt))
       (subst (λ l. Contains (levels_of (outer + o.depth) (0 + length o.left) l) (0 + length o.left, outer + o.depth)) (sym (write_factor_nil no_span)) (0, omega arith, refl))
 
   mutual
@@ -229,7 +229,7 @@ module _ (d : Dialect) (end : Span) (outer levels : ℕ) (tokens : List Placed) 
 
     pub expr_sound : (k : ℕ) → GoodT write_expr (formed_expr d) k (expr d end k)
     expr_sound zero = expr_stops
-    expr_sound (suc k) = expr_by_sound d end outer levels tokens known k (factor d end k) (factor_sound k)
+    expr_sound (suc k) = expr_by_sound d layout form end outer levels tokens known k (factor d end k) (factor_sound k)
 
     pub factor_sound : (k : ℕ) → GoodT write_factor (formed_factor d) k (factor d end k)
     factor_sound zero = factor_stops

@@ -13,7 +13,7 @@ use Rattle.expr_parser.specs.Tokens.{Token, Placed, Name, Word, Symbol}
 use Rattle.expr_parser.specs.Spans.{last_of, up_to_end, span_between}
 use Rattle.expr_parser.specs.Layout.{Layout, token, word, symbol, spanned, counted, IsWritten}
 use Rattle.expr_parser.specs.Writing.{identifier}
-use Rattle.expr_parser.specs.Text.{BeginsExpr}
+use Rattle.expr_parser.specs.Text.{Begins}
 use Rattle.expr_parser.specs.Classes.{words, symbols, expect, expect_word}
 use Rattle.expr_parser.proofs.ClassTokens.{symbol_is, word_is}
 use Rattle.expr_parser.proofs.Openings.{Opening}
@@ -55,39 +55,39 @@ written_name end i t r e h =
 
 -- ---- tokens
 
-module _ (d : Dialect) (end : Span) (outer levels : ℕ) (all : List Placed) where
-  taking : {A B : Type 0} {Q : B → List Placed → Type 0} {o : Opening} (found : Option A) (t : Placed) (r : List Placed) (f : A → Parser Placed B) → Spot d end outer levels all o (t ∷ r) → BeginsExpr d o.left
-      → ((a : A) → found ≡ Some a → Answer d end outer levels all Q (f a r)) → Answer d end outer levels all Q (and_then (take_of found (t ∷ r)) f)
-  taking None t r f spot begun k = refuses spot.front (t ∷ r) spot.is (subst (BeginsExpr d) (sym spot.spelled) begun)
+module _ (d : Dialect) {C : Type 0} (layout : C → Layout) (form : C → Bool) (end : Span) (outer levels : ℕ) (all : List Placed) where
+  taking : {A B : Type 0} {Q : B → List Placed → Type 0} {o : Opening} (found : Option A) (t : Placed) (r : List Placed) (f : A → Parser Placed B) → Spot d layout form end outer levels all o (t ∷ r) → Begins d layout form o.left
+      → ((a : A) → found ≡ Some a → Answer d layout form end outer levels all Q (f a r)) → Answer d layout form end outer levels all Q (and_then (take_of found (t ∷ r)) f)
+  taking None t r f spot begun k = refuses spot.front (t ∷ r) spot.is (subst (Begins d layout form) (sym spot.spelled) begun)
   taking (Some a) t r f spot begun k = k a refl
 
   -- a token of a class
-  pub answer_token : {A B : Type 0} {Q : B → List Placed → Type 0} (class : Class Placed A) {o : Opening} (s : List Placed) {f : A → Parser Placed B} → Spot d end outer levels all o s → BeginsExpr d o.left
-      → ((t : Placed) (a : A) (r : List Placed) → class t ≡ Some a → s ≡ t ∷ r → Answer d end outer levels all Q (f a r)) → Answer d end outer levels all Q (and_then (one_of class s) f)
+  pub answer_token : {A B : Type 0} {Q : B → List Placed → Type 0} (class : Class Placed A) {o : Opening} (s : List Placed) {f : A → Parser Placed B} → Spot d layout form end outer levels all o s → Begins d layout form o.left
+      → ((t : Placed) (a : A) (r : List Placed) → class t ≡ Some a → s ≡ t ∷ r → Answer d layout form end outer levels all Q (f a r)) → Answer d layout form end outer levels all Q (and_then (one_of class s) f)
   unfolding one_of
-  answer_token class [] spot begun k = refuses spot.front [] spot.is (subst (BeginsExpr d) (sym spot.spelled) begun)
+  answer_token class [] spot begun k = refuses spot.front [] spot.is (subst (Begins d layout form) (sym spot.spelled) begun)
   answer_token class (t ∷ r) {f} spot begun k = taking (class t) t r f spot begun (λ a e. k t a r e refl)
 
-  pub answer_symbol : {B : Type 0} {Q : B → List Placed → Type 0} (m : SpecialSymbol) {o : Opening} (s : List Placed) {f : Unit {0} → Parser Placed B} → Spot d end outer levels all o s → BeginsExpr d o.left
-      → ((a : Unit {0}) (r : List Placed) → IsWritten end (symbol m) s r → Answer d end outer levels all Q (f a r)) → Answer d end outer levels all Q (and_then (expect m s) f)
+  pub answer_symbol : {B : Type 0} {Q : B → List Placed → Type 0} (m : SpecialSymbol) {o : Opening} (s : List Placed) {f : Unit {0} → Parser Placed B} → Spot d layout form end outer levels all o s → Begins d layout form o.left
+      → ((a : Unit {0}) (r : List Placed) → IsWritten end (symbol m) s r → Answer d layout form end outer levels all Q (f a r)) → Answer d layout form end outer levels all Q (and_then (expect m s) f)
   answer_symbol m s spot begun k = answer_token (symbols m) s spot begun (λ t a r is e. k a r (written_token end (Symbol m) t r e (symbol_is m t.token a is)))
 
   -- a token that is there, as a test has shown
   known : {A B : Type 0} {Q : B → List Placed → Type 0} (found : Option A) (t : Placed) (r : List Placed) (f : A → Parser Placed B) → is_some found ≡ true
-      → ((a : A) → found ≡ Some a → Answer d end outer levels all Q (f a r)) → Answer d end outer levels all Q (and_then (take_of found (t ∷ r)) f)
+      → ((a : A) → found ≡ Some a → Answer d layout form end outer levels all Q (f a r)) → Answer d layout form end outer levels all Q (and_then (take_of found (t ∷ r)) f)
   known None t r f e k = absurd cc
   known (Some a) t r f e k = k a refl
 
   pub answer_begun : {A B : Type 0} {Q : B → List Placed → Type 0} (class : Class Placed A) (s : List Placed) {f : A → Parser Placed B} → begins class s ≡ true
-      → ((t : Placed) (a : A) (r : List Placed) → class t ≡ Some a → s ≡ t ∷ r → Answer d end outer levels all Q (f a r)) → Answer d end outer levels all Q (and_then (one_of class s) f)
+      → ((t : Placed) (a : A) (r : List Placed) → class t ≡ Some a → s ≡ t ∷ r → Answer d layout form end outer levels all Q (f a r)) → Answer d layout form end outer levels all Q (and_then (one_of class s) f)
   unfolding one_of begins
   answer_begun class [] e k = absurd cc
   answer_begun class (t ∷ r) {f} e k = known (class t) t r f e (λ a is. k t a r is refl)
 
   pub answer_word : {B : Type 0} {Q : B → List Placed → Type 0} (w : WordSymbol) (s : List Placed) {f : Unit {0} → Parser Placed B} → begins (words w) s ≡ true
-      → ((a : Unit {0}) (r : List Placed) → IsWritten end (word w) s r → Answer d end outer levels all Q (f a r)) → Answer d end outer levels all Q (and_then (expect_word w s) f)
+      → ((a : Unit {0}) (r : List Placed) → IsWritten end (word w) s r → Answer d layout form end outer levels all Q (f a r)) → Answer d layout form end outer levels all Q (and_then (expect_word w s) f)
   answer_word w s e k = answer_begun (words w) s e (λ t a r is e. k a r (written_token end (Word w) t r e (word_is w t.token a is)))
 
   pub answer_mark : {B : Type 0} {Q : B → List Placed → Type 0} (m : SpecialSymbol) (s : List Placed) {f : Unit {0} → Parser Placed B} → begins (symbols m) s ≡ true
-      → ((a : Unit {0}) (r : List Placed) → IsWritten end (symbol m) s r → Answer d end outer levels all Q (f a r)) → Answer d end outer levels all Q (and_then (expect m s) f)
+      → ((a : Unit {0}) (r : List Placed) → IsWritten end (symbol m) s r → Answer d layout form end outer levels all Q (f a r)) → Answer d layout form end outer levels all Q (and_then (expect m s) f)
   answer_mark m s e k = answer_begun (symbols m) s e (λ t a r is e. k a r (written_token end (Symbol m) t r e (symbol_is m t.token a is)))

@@ -1,4 +1,4 @@
--- Where a parser stands in an expression that may still become one, and what its answers are there.
+-- Where a parser stands in a tree that may still become one, and what its answers are there.
 use Rattle.std.proofs.Common.{◌≡◌, ℕ, ◌+◌, ◌≤◌, Bool, List, [], ◌∷◌, ◌++◌, length, Err, refl, sym, ap, subst, ◌∙◌, append_assoc, arith}
 use Rattle.std.specs.Prelude.{IsTrue}
 use Rattle.std.specs.List.{Contains}
@@ -10,9 +10,8 @@ use Rattle.token_parsing.specs.Parser.{Parser, Outcome}
 use Rattle.token_parsing.proofs.Fair.{Fair, stops}
 use Rattle.expr_parser.specs.Tokens.{Token, Placed, plain}
 use Rattle.expr_parser.specs.Layout.{Layout, tokens_of, height_of, levels_of, IsWritten}
-use Rattle.expr_parser.specs.Writing.{write_expr}
 use Rattle.expr_parser.specs.Grammar.{AreTokens}
-use Rattle.expr_parser.specs.Text.{BeginsExpr, MayBegin}
+use Rattle.expr_parser.specs.Text.{Begins, MayBeginIn}
 use Rattle.expr_parser.proofs.Layouts.{written_taken}
 use Rattle.expr_parser.proofs.Openings.{Opening, within, behind, Hole, hole_begins}
 
@@ -24,12 +23,12 @@ pub are_first : (d : Dialect) (a b : List Token) → AreTokens d (a ++ b) → Ar
 are_first d [] b h = tt
 are_first d (t ∷ a) b h = (h.0, are_first d a b h.1)
 
-module _ (d : Dialect) (end : Span) (outer levels : ℕ) (all : List Placed) where
-  -- before an unexpected token an expression begins, and before what is too deep a node of the next level may begin
+module _ (d : Dialect) {C : Type 0} (layout : C → Layout) (form : C → Bool) (end : Span) (outer levels : ℕ) (all : List Placed) where
+  -- before an unexpected token a tree begins, and before what is too deep a node of the next level may begin
   abbrev pub Answer : {A : Type 0} → (A → List Placed → Type 0) → Outcome Placed A → Type 0
-  Answer P o = Fair all (λ v. BeginsExpr d (plain v)) (λ v. MayBegin d outer (outer + levels) (plain v)) P o
+  Answer P o = Fair all (λ v. Begins d layout form (plain v)) (λ v. MayBeginIn d layout form outer (outer + levels) (plain v)) P o
 
-  -- the open part of the expression begins here
+  -- the open part of the tree begins here
   pub record Spot (o : Opening) (s : List Placed) : Type 0 where
     pub front : List Placed
     pub is : all ≡ front ++ s
@@ -38,14 +37,14 @@ module _ (d : Dialect) (end : Span) (outer levels : ℕ) (all : List Placed) whe
     pub closing : AreTokens d o.right
 
   -- what a parser read from s up to r
-  pub record Reads {A : Type 0} (write : A → Layout) (form : A → Bool) (k : ℕ) (s : List Placed) (a : A) (r : List Placed) : Type 0 where
+  pub record Reads {A : Type 0} (write : A → Layout) (shape : A → Bool) (k : ℕ) (s : List Placed) (a : A) (r : List Placed) : Type 0 where
     pub written : IsWritten end (write a) s r
-    pub formed : IsTrue (form a)
+    pub formed : IsTrue (shape a)
     pub fits : height_of (write a) ≤ k
 
   -- a parser of such parts with k levels left
   abbrev pub Good : {A : Type 0} → (A → Layout) → (A → Bool) → ℕ → Parser Placed A → Type 0
-  Good {A} write formed k p = (o : Opening) (s : List Placed) → Spot o s → Hole d write formed o → o.depth + k ≡ levels → Answer (Reads write formed k s) (p s)
+  Good {A} write formed k p = (o : Opening) (s : List Placed) → Spot o s → Hole d layout form write formed o → o.depth + k ≡ levels → Answer (Reads write formed k s) (p s)
 
   -- ---- moving on
 
@@ -76,22 +75,22 @@ module _ (d : Dialect) (end : Span) (outer levels : ℕ) (all : List Placed) whe
         closing = are_both d p.right o.right closing spot.closing;
       }
 
-  -- an expression begins with what is before a hole
-  pub begins_at : {A : Type 0} {write : A → Layout} {formed : A → Bool} {o : Opening} {s : List Placed} → Spot o s → Hole d write formed o → (a : A) → IsTrue (formed a) → AreTokens d (tokens_of (write a)) → BeginsExpr d o.left
+  -- a tree begins with what is before a hole
+  pub begins_at : {A : Type 0} {write : A → Layout} {formed : A → Bool} {o : Opening} {s : List Placed} → Spot o s → Hole d layout form write formed o → (a : A) → IsTrue (formed a) → AreTokens d (tokens_of (write a)) → Begins d layout form o.left
   begins_at {write} {o} spot hole a ok known =
       hole_begins o hole a ok o.left (tokens_of (write a) ++ o.right) (are_both d o.left (tokens_of (write a) ++ o.right) spot.known (are_both d (tokens_of (write a)) o.right known spot.closing)) refl
 
   -- a node of the level of the hole may begin there
-  pub deep_at : {A : Type 0} {write : A → Layout} {formed : A → Bool} {o : Opening} {s : List Placed} → Spot o s → Hole d write formed o → o.depth + 0 ≡ levels → (a : A) → IsTrue (formed a) → AreTokens d (tokens_of (write a))
+  pub deep_at : {A : Type 0} {write : A → Layout} {formed : A → Bool} {o : Opening} {s : List Placed} → Spot o s → Hole d layout form write formed o → o.depth + 0 ≡ levels → (a : A) → IsTrue (formed a) → AreTokens d (tokens_of (write a))
       → Contains (levels_of (outer + o.depth) (0 + length o.left) (write a)) (0 + length o.left, outer + o.depth) → {B : Type 0} {P : B → List Placed → Type 0} → Answer P (Err (TooDeep (length s)))
   deep_at {write} {o} {s} spot hole left a ok known has =
       let (c, formed, written) = hole.at a ok in
       let more = tokens_of (write a) ++ o.right in
-      let spelled : tokens_of (write_expr c) ≡ o.left ++ more = ap tokens_of written ∙ o.tokens (write a) in
+      let spelled : tokens_of (layout c) ≡ o.left ++ more = ap tokens_of written ∙ o.tokens (write a) in
       let are = are_both d o.left more spot.known (are_both d (tokens_of (write a)) o.right known spot.closing) in
-      let here : Contains (levels_of outer 0 (write_expr c)) (0 + length o.left, outer + o.depth) = subst (λ l. Contains (levels_of outer 0 l) (0 + length o.left, outer + o.depth)) (sym written) (o.levels (write a) outer 0 (0 + length o.left) (outer + o.depth) has) in
-      let may : MayBegin d outer (outer + o.depth) o.left = (c, more, record { formed = formed; of_dialect = subst (AreTokens d) (sym spelled) are }, spelled, subst (λ n. Contains (levels_of outer 0 (write_expr c)) (n, outer + o.depth)) (omega arith) here) in
-      stops spot.front s spot.is (subst (λ v. MayBegin d outer (outer + levels) v) (sym spot.spelled) (subst (λ n. MayBegin d outer n o.left) (deep outer o.depth levels left) may))
+      let here : Contains (levels_of outer 0 (layout c)) (0 + length o.left, outer + o.depth) = subst (λ l. Contains (levels_of outer 0 l) (0 + length o.left, outer + o.depth)) (sym written) (o.levels (write a) outer 0 (0 + length o.left) (outer + o.depth) has) in
+      let may : MayBeginIn d layout form outer (outer + o.depth) o.left = (c, more, record { formed = formed; of_dialect = subst (AreTokens d) (sym spelled) are }, spelled, subst (λ n. Contains (levels_of outer 0 (layout c)) (n, outer + o.depth)) (omega arith) here) in
+      stops spot.front s spot.is (subst (λ v. MayBeginIn d layout form outer (outer + levels) v) (sym spot.spelled) (subst (λ n. MayBeginIn d layout form outer n o.left) (deep outer o.depth levels left) may))
     where
       deep : (outer depth levels : ℕ) → depth + 0 ≡ levels → outer + depth ≡ outer + levels
       deep outer depth levels e = omega arith

@@ -20,7 +20,7 @@ use Rattle.pascal_tree.specs.declared.expressions.Place.{Place, fold-Place}
 use Rattle.pascal_tree.specs.declared.expressions.Simple.{Simple, fold-Simple}
 use Rattle.pascal_tree.specs.declared.expressions.Term.{Term, fold-Term}
 use Rattle.expr_parser.specs.Tokens.{Token, seen, plain}
-use Rattle.expr_parser.specs.Layout.{tokens_of}
+use Rattle.expr_parser.specs.Layout.{Layout, tokens_of}
 use Rattle.expr_parser.specs.Writing.{write_expr, write_place}
 
 -- some text of the dialect has this token
@@ -135,10 +135,13 @@ formed_term d = fold-Term Bool Bool Bool Bool Bool Bool Bool Bool Bool Bool Bool
 
 -- ---- trees of the grammar
 
-pub record IsExpr (d : Dialect) (e : Expr) : Type 0 where
-  pub formed : IsTrue (formed_expr d e)
-  pub of_dialect : AreTokens d (tokens_of (write_expr e))
+-- a tree that is laid out so, where it is formed so
+pub record IsTree {C : Type 0} (d : Dialect) (layout : C → Layout) (form : C → Bool) (c : C) : Type 0 where
+  pub formed : IsTrue (form c)
+  pub of_dialect : AreTokens d (tokens_of (layout c))
 
-pub record IsPlace (d : Dialect) (p : Place) : Type 0 where
-  pub formed : IsTrue (formed_place d p)
-  pub of_dialect : AreTokens d (tokens_of (write_place p))
+abbrev pub IsExpr : Dialect → Expr → Type 0
+IsExpr d e = IsTree d write_expr (formed_expr d) e
+
+abbrev pub IsPlace : Dialect → Place → Type 0
+IsPlace d p = IsTree d write_place (formed_place d) p

@@ -4,6 +4,10 @@
 //! parsers of a few parts, what each production gives; each function states by one clause that it
 //! returns what its parser gives. How each tree is written, by tokens and by nodes with their spans,
 //! stands apart from that in `specs/Writing.antt`.
+//!
+//! `specs/Text.antt` says, for any kind of trees, which tokens are the longest run and where a node of
+//! some level may begin. `proofs/Sound*` shows what is read and that a tree begins with the tokens
+//! before a refused one; `proofs/Followed*` that the tokens of each tree are followed to their end.
 #![tactic(auto)]
 
 pub mod descent;
