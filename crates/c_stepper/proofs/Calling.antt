@@ -16,7 +16,7 @@ use Rattle.c_meaning.specs.Cells.{Name, Cell, Tree, Block, Blocks}
 use Rattle.c_meaning.specs.Answer.{Answer, Got, Bad, ◌>>=◌, or_bad, or_else}
 use Rattle.c_meaning.specs.Types.{Signature, Of, AnyPointer, Routine}
 use Rattle.c_meaning.specs.Values.{Value, Typed, leaf, converted}
-use Rattle.c_meaning.specs.Evaluate.{View, Site, root_number, value, values}
+use Rattle.c_meaning.specs.Evaluate.{View, Site, root_number, name_value, function_value, value, values}
 use Rattle.c_meaning.specs.States as m
 use Rattle.c_meaning.specs.Steps.{called_cell, called_value, called, target_of, parameter_blocks}
 use Rattle.name_tables.specs.Places.{first_from, function_name}
@@ -28,6 +28,8 @@ use Rattle.c_evaluation.specs.declared.value.Value as held
 use Rattle.c_evaluation.specs.Halts.{Tells}
 use Rattle.c_evaluation.specs.Values as rv
 use Rattle.c_evaluation.specs.Values.{values_of, type_in, tree_in}
+use Rattle.name_tables.proofs.Finding.{below}
+use Rattle.c_evaluation.proofs.Lookups.{written_there}
 use Rattle.c_evaluation.proofs.Binary.{bind_got, bind_bad}
 use Rattle.c_stepper.specs.Runners.{parts_at}
 use Rattle.c_stepper.specs.Calls.{function_from, callee_value, function_called, callee_function, pointed_name, is_named, placed, site_target, parameter_block, Entered, fitted, entered_with, entered}
@@ -87,6 +89,33 @@ module _ (functions : List CFunction) (x : Value) where
 
   pub some_function : (name : Name) → called_value x ≡ Got name → function_called functions x ≡ Got (function_from 0 name functions)
   some_function name h = bind_got (called_value x) name _ h
+
+-- ---- the function of a name
+
+at_place : {A : Type 0} (list : List A) (n : ℕ) → n < length list → (a : A) × (slice_get list n ≡ Some a)
+at_place [] n h = absurd (omega (arith, h))
+at_place (a ∷ list) zero h = (a, refl)
+at_place (a ∷ list) (suc n) h = at_place list n (omega (arith, h))
+
+told_somehow : (a w : Option Signature) (s : Signature) → w ≡ Some s → (r : Signature) × (or_else a w ≡ Some r)
+unfolding or_else
+told_somehow None w s h = (s, h)
+told_somehow (Some r) w s h = (r, refl)
+
+module _ (c : CProgram) (reach : ℕ) (names : m.Names) (blocks : Blocks) (x : Name) (n : ℕ) (place : first_from 0 x (map function_name c.functions) ≡ Some n) (here : n < reach) where
+  signed : (s : Signature) × (m.signature_of c reach x ≡ Some s)
+  unfolding m.signature_of
+  signed =
+      let f = at_place c.functions n (let low = below function_name x c.functions 0 n place in omega (arith, low)) in
+      told_somehow (m.announced x c.prototypes) (m.written x (take reach c.functions)) _ (written_there x c.functions reach n f.0 place here f.1)
+
+  -- no variable hides it
+  pub direct : m.number_of c names x ≡ None → callee_function c (m.view c reach names blocks) (callee.Direct x) ≡ Got (Some n)
+  unfolding ◌>>=◌ m.view m.numbered name_value function_value called_value called_cell leaf
+  direct h =
+      ap (λ o. name_value (m.view c reach names blocks) x (m.numbered blocks o) >>= function_called c.functions) h
+      ∙ ap (λ o. function_value x o >>= function_called c.functions) signed.1
+      ∙ ap Got (sym (function_first x c.functions 0) ∙ place)
 
 module _ (v : View) (s : Site) where
   pub no_target : (kind : StuckKind) → root_number v s.root ≡ Bad kind → site_target v s ≡ Bad kind

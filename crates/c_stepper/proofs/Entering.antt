@@ -34,7 +34,7 @@ use Rattle.c_evaluation.specs.declared.halt.Halt.{Halt}
 use Rattle.c_evaluation.specs.declared.halt.Halt.TheVariants.{Stuck, Memory}
 use Rattle.c_stepper.specs.Spots.{todo_at}
 use Rattle.c_stepper.specs.Runners as r
-use Rattle.name_tables.specs.Tables.{Fits}
+use Rattle.c_stepper.specs.Guides.{IsGuide}
 use Rattle.c_stepper.specs.Runners.{parts_of, parts_at, name_at, frame_of, frames_of, state_of, FitsFrame, FitsFrames, Acts}
 use Rattle.c_stepper.specs.Calls.{function_from, callee_value, function_called, callee_function, Entered, fitted, entered_with, entered, entered_state, entry_done}
 
@@ -229,11 +229,11 @@ module _ (c : CProgram) (old new : Runner) (caller : Frame) (n : ℕ) (target : 
       λ i. record { frame = frame i; below = below i; blocks = m i; input = input; output = output; calls = with_entry (number_at_end (name_at c n)) calls }
 
   pub fits_begun : FitsFrames c old → new.frame.function ≡ Some n → new.frame.base ≡ length old.memory → length old.memory + (length (parts_at c (Some n)).parameters + length (parts_at c (Some n)).locals) < 2 ^ 63
-      → new.below.items ≡ old.below.items ++ caller ∷ [] → FitsFrame c caller → Fits c new.tables → FitsFrames c new
+      → new.below.items ≡ old.below.items ++ caller ∷ [] → FitsFrame c caller → IsGuide c new.guide → FitsFrames c new
   fits_begun h e b l w f t = record {
     frame = rw (e, b) l;
     below = subst (All (FitsFrame c)) (sym w) (All-push (FitsFrame c) old.below.items caller h.below f);
-    tables = t;
+    guide = t;
   }
 
 pub entry_done_is : (c : CProgram) (new : Runner) (input output calls : List ℕ) (n : ℕ) (done : Done) (counts : Bool) (after : State) → done ≡ entry_done counts → counts ≡ is_some (number_at_end (name_at c n))
@@ -274,7 +274,7 @@ starts c it input e r b o a t w h =
     let frame = parts ∙ ap whole (drop_none p.body) in
     λ i. record { frame = frame i; below = frames_of c (w i) []; blocks = h i; input = input; output = []; calls = [] }
 
-pub fits_start : (c : CProgram) (it : Runner) (first : Blocks) (ls : List CVariable) → it.frame.function ≡ None → it.frame.base ≡ length first → it.below.items ≡ [] → ls ≡ c.main.locals → it.memory ≡ first ++ fresh_blocks false c.declarations ls → length it.memory < 2 ^ 63 → Fits c it.tables → FitsFrames c it
+pub fits_start : (c : CProgram) (it : Runner) (first : Blocks) (ls : List CVariable) → it.frame.function ≡ None → it.frame.base ≡ length first → it.below.items ≡ [] → ls ≡ c.main.locals → it.memory ≡ first ++ fresh_blocks false c.declarations ls → length it.memory < 2 ^ 63 → IsGuide c it.guide → FitsFrames c it
 fits_start c it first ls e b w l h small t = record {
   frame =
       let made : length it.memory ≡ length first + length (fresh_blocks false c.declarations ls) = ap length h ∙ length-append first (fresh_blocks false c.declarations ls) in
@@ -282,5 +282,5 @@ fits_start c it first ls e b w l h small t = record {
       let within : it.frame.base + (0 + length c.main.locals) < 2 ^ 63 = omega (arith, made, locals, small, b) in
       subst (λ f. it.frame.base + (length (parts_at c f).parameters + length (parts_at c f).locals) < 2 ^ 63) (sym e) within;
   below = subst (All (FitsFrame c)) (sym w) (All-nil (FitsFrame c));
-  tables = t;
+  guide = t;
 }

@@ -1,6 +1,5 @@
 -- The way to a label leads to the statements that its search gives.
 use Rattle.std.proofs.Common.{◌≡◌, ◌≤◌, ℕ, zero, suc, ◌+◌, List, [], ◌∷◌, ◌++◌, drop, Bool, true, false, Option, Some, None, refl, sym, ap, ◌∙◌, arith, append_assoc, append-nil, get_or, length, ◌<◌}
-use Rattle.std.proofs.lemmas.Option.{slice_get_read}
 use Rattle.c_stepper.proofs.Todo.{drop_next, onto_append}
 use Rattle.std.specs.Prelude.{slice_get, if◌then◌else◌}
 use Rattle.std.specs.Str.{bytes_eq}
@@ -10,30 +9,12 @@ use Rattle.c_meaning.specs.Answer.{or_else}
 use Rattle.c_meaning.specs.Cells.{Name}
 use Rattle.c_meaning.specs.Todo.{onto, from_label, from_label_in, from_label_of}
 use Rattle.c_stepper.specs.Spots.{branch_of, branch_at, after_of, todo_at}
-use Rattle.c_stepper.specs.Labels.{Way, or_way, inside, last, levels, path_statement, path_in, path_of}
-
-pub path_list : (l : Name) (i : ℕ) (a : List Statement) → path_in l i (body_of a) ≡ path_of l i a
-path_list l i [] = refl
-path_list l i (s ∷ rest) = ap (or_way (path_statement l i s)) (path_list l (i + 1) rest)
-
-pub last_none : (w : Way) → last w ≡ None → w ≡ None
-last_none None h = refl
-last_none (Some p) h = cc
-
-pub last_some : (w o : Way) (at : ℕ) → last w ≡ Some at → or_way w o ≡ w
-last_some None o at h = cc
-last_some (Some p) o at h = refl
-
-pub item_size : (list : List Statement) (i : ℕ) (s : Statement) → slice_get list i ≡ Some s → statement_size s + 1 ≤ body_size (body_of list)
-item_size [] i s h = cc
-item_size (t ∷ list) zero s h = let e : t ≡ s = cc in omega (arith, ap statement_size e)
-item_size (t ∷ list) (suc i) s h = omega (arith, item_size list i s h)
-
-pub item_get : (list : List Statement) (i : ℕ) (s : Statement) → i < length list → s ≡ get_or list i s → slice_get list i ≡ Some s
-item_get list i s h e = slice_get_read list (length list) i s refl h e
-
-pub path_next : (l : Name) (list : List Statement) (i : ℕ) (s : Statement) → slice_get list i ≡ Some s → path_statement l i s ≡ None → path_of l i (drop i list) ≡ path_of l (i + 1) (drop (i + 1) list)
-path_next l list i s h n = ap (path_of l i) (drop_next list i s h) ∙ ap (λ w. or_way w (path_of l (i + 1) (drop (i + 1) list))) n
+use Rattle.label_ways.specs.Labels.{Way, or_way, inside, path_statement, path_in, path_of}
+use Rattle.label_ways.specs.Ways.{body_in, body_if}
+use Rattle.label_ways.specs.declared.level.Level.{Level}
+use Rattle.c_tree.specs.declared.program.CFunction.{CFunction}
+use Rattle.c_tree.specs.declared.program.CProgram.{CProgram}
+use Rattle.c_stepper.specs.Runners.{parts_at, parts_of}
 
 -- what a way leads to, before what follows the list
 abbrev pub led : List Statement → List Statement → Way → Option (List Statement)
@@ -97,22 +78,20 @@ list_led l list (s ∷ rest) i h =
 pub label_led : (l : Name) (body : List Statement) → from_label_of l body ≡ led body [] (path_of l 0 body)
 label_led l body = list_led l body body 0 refl
 
-pub none_levels : (w : Way) → last w ≡ None → levels w ≡ []
-none_levels w h = ap levels (last_none w h)
-
-pub else_levels : (l : Name) (i : ℕ) (t : Expr) (a b : List Statement) → last (inside i false (path_of l 0 a)) ≡ None → levels (path_statement l i (m.IfElse t (body_of a) (body_of b))) ≡ levels (inside i true (path_of l 0 b))
-else_levels l i t a b h =
-    ap (λ v. levels (or_way (inside i false v) (inside i true (path_in l 0 (body_of b))))) (path_list l 0 a)
-    ∙ ap (λ v. levels (or_way v (inside i true (path_in l 0 (body_of b))))) (last_none (inside i false (path_of l 0 a)) h)
-    ∙ ap (λ v. levels (inside i true v)) (path_list l 0 b)
-
-led_last : (body : List Statement) (w : Way) (at : ℕ) → last w ≡ Some at → led body [] w ≡ Some (todo_at body (levels w) at)
-led_last body None at h = cc
-led_last body (Some p) at h = let e : p.1 ≡ at = cc in ap Some (append-nil (todo_at body p.0 p.1) ∙ ap (todo_at body p.0) e)
+led_way : (body : List Statement) (w : Way) (p : List Level × ℕ) → w ≡ Some p → led body [] w ≡ Some (todo_at body p.0 p.1)
+led_way body w p h = ap (led body []) h ∙ ap Some (append-nil (todo_at body p.0 p.1))
 
 -- where the way is found, the search gives the statements at its end
-pub jump_to : (l : Name) (body : List Statement) (at : ℕ) → last (path_of l 0 body) ≡ Some at → from_label_of l body ≡ Some (todo_at body (levels (path_of l 0 body)) at)
-jump_to l body at h = label_led l body ∙ led_last body (path_of l 0 body) at h
+pub jump_to : (l : Name) (body : List Statement) (p : List Level × ℕ) → path_of l 0 body ≡ Some p → from_label_of l body ≡ Some (todo_at body p.0 p.1)
+jump_to l body p h = label_led l body ∙ led_way body (path_of l 0 body) p h
 
-pub jump_none : (l : Name) (body : List Statement) → last (path_of l 0 body) ≡ None → from_label_of l body ≡ None
-jump_none l body h = label_led l body ∙ ap (led body []) (last_none (path_of l 0 body) h)
+pub jump_none : (l : Name) (body : List Statement) → path_of l 0 body ≡ None → from_label_of l body ≡ None
+jump_none l body h = label_led l body ∙ ap (led body []) h
+
+-- the body that the guide reckons with is the function's
+pub same_body : (c : CProgram) (f : Option ℕ) → body_in c f ≡ (parts_at c f).body
+same_body c None = refl
+same_body c (Some n) = by (slice_get c.functions n) where
+  by : (o : Option CFunction) → body_if o ≡ (parts_of o).body
+  by None = refl
+  by (Some f) = refl

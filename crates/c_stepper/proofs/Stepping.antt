@@ -5,8 +5,8 @@ use Rattle.c_tree.specs.Tree.{Statement}
 use Rattle.c_tree.specs.declared.program.CProgram.{CProgram}
 use Rattle.c_meaning.specs.Values.{Value}
 use Rattle.c_meaning.specs.Steps.{do_statement, leave, view_of, do_next, CStep}
-use Rattle.name_tables.specs.declared.tables.Tables.{Tables}
-use Rattle.name_tables.specs.Tables.{Fits}
+use Rattle.c_stepper.specs.declared.guide.Guide.{Guide}
+use Rattle.c_stepper.specs.Guides.{IsGuide}
 use Rattle.c_stepper.specs.Spots.{todo_at}
 use Rattle.c_stepper.specs.Runners.{state_of, runner_view, body_at, parts_at, FitsFrame, FitsFrames, Stays, IsSettled, statement_at}
 use Rattle.c_stepper.specs.declared.runner.Runner.{Runner}
@@ -27,8 +27,8 @@ pub stays_fits : (c : CProgram) (old new : Runner) → Stays old new → FitsFra
 stays_fits c old new s h = record {
   frame = rw (s.function, s.base) h.frame;
   below = subst (All (FitsFrame c)) (sym s.below) h.below;
-  tables = subst (Fits c) (sym s.tables) h.tables;
+  guide = subst (IsGuide c) (sym s.guide) h.guide;
 }
 
-pub tables_fit : (c : CProgram) (t u : Tables) → u ≡ t → Fits c t → Fits c u
-tables_fit c t u e h = subst (Fits c) (sym e) h
+pub guide_stays : (c : CProgram) (t u : Guide) → u ≡ t → IsGuide c t → IsGuide c u
+guide_stays c t u e h = subst (IsGuide c) (sym e) h

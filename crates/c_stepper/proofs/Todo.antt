@@ -6,7 +6,7 @@ use Rattle.c_tree.specs.Tree.{Expr, Statement, Body, Empty, Then, list_of, body_
 use Rattle.c_meaning.specs.Todo.{onto}
 use Rattle.std.proofs.lemmas.Option.{slice_get-get_or}
 use Rattle.c_stepper.specs.Spots.{branch_at, list_in, after_of, todo_at}
-use Rattle.c_stepper.specs.declared.spot.Level.{Level}
+use Rattle.label_ways.specs.declared.level.Level.{Level}
 
 pub drop_all : (list : List Statement) (n : ℕ) → length list ≤ n → drop n list ≡ []
 drop_all [] zero h = refl

@@ -1,5 +1,5 @@
 pub mod Spots
-pub mod Labels
+pub mod Guides
 pub mod Runners
 pub mod Calls
 pub mod Marks

@@ -14,7 +14,7 @@ use Rattle.c_meaning.specs.States.{State, view}
 use Rattle.c_meaning.specs.Steps as n
 use Rattle.c_meaning.specs.Steps.{Next, names_from, view_of, CStep}
 use Rattle.c_meaning.specs.Cells.{Name}
-use Rattle.name_tables.specs.Tables.{Fits}
+use Rattle.c_stepper.specs.Guides.{IsGuide}
 use Rattle.c_stepper.specs.Spots.{list_in, todo_of}
 use Rattle.c_evaluation.specs.declared.halt.Halt.{Halt}
 use Rattle.c_evaluation.specs.declared.halt.Halt.TheVariants.{Stuck, Memory}
@@ -66,11 +66,11 @@ name_at c n = name_of (slice_get c.functions n)
 abbrev pub FitsFrame : CProgram → Frame → Type 0
 FitsFrame c f = let p = parts_at c f.function in f.base + (length p.parameters + length p.locals) < 2 ^ 63
 
--- and of all functions, and the tables are those of the program
+-- and of all functions, and the guide is that of the program
 pub record FitsFrames (c : CProgram) (it : Runner) : Type 0 where
   pub frame : FitsFrame c it.frame
   pub below : All (FitsFrame c) it.below.items
-  pub tables : Fits c it.tables
+  pub guide : IsGuide c it.guide
 
 abbrev pub stored_type : Option ℕ → ObjectType → y.PlaceType
 stored_type None of = y.Plain of
@@ -157,4 +157,4 @@ pub record Stays (old new : Runner) : Type 0 where
   pub function : new.frame.function ≡ old.frame.function
   pub base : new.frame.base ≡ old.frame.base
   pub below : new.below.items ≡ old.below.items
-  pub tables : new.tables ≡ old.tables
+  pub guide : new.guide ≡ old.guide

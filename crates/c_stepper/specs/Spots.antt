@@ -2,7 +2,7 @@
 use Rattle.std.specs.Prelude.{ℕ, ◌+◌, Bool, if◌then◌else◌, List, [], ◌∷◌, ◌++◌, drop, Option, Some, None, slice_get}
 use Rattle.c_tree.specs.Tree as m
 use Rattle.c_tree.specs.Tree.{Statement, list_of}
-use Rattle.c_stepper.specs.declared.spot.Level.{Level}
+use Rattle.label_ways.specs.declared.level.Level.{Level}
 use Rattle.c_stepper.specs.declared.spot.Spot.{Spot}
 
 abbrev pub branch_of : Bool → Statement → List Statement

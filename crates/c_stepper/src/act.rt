@@ -3,7 +3,7 @@ ghost use Rattle.std.specs.Prelude.{◌≡◌, ◌+◌, ◌<◌, ◌^◌, ℕ, L
 ghost use Rattle.std.specs.Option.{option_copied};
 ghost use Rattle.c_meaning.specs.Steps.{do_statement, CStep, after_byte};
 ghost use Rattle.c_stepper.specs.Spots.{list_in, todo_at};
-ghost use Rattle.c_stepper.specs.Runners.{state_of, runner_view, body_at, first_of, FitsFrames, IsSettled, statement_at, is_reading, reads_here, Seeks, Acts};
+ghost use Rattle.c_stepper.specs.Runners.{state_of, runner_view, body_at, first_of, FitsFrames, IsSettled, statement_at, is_reading, reads_in, reads_here, Seeks, Acts};
 
 use crate::runner::{Done, Runner, written_text};
 use crate::spot::{at, list_at};
@@ -21,16 +21,29 @@ fn is_reading(statement: &CStatement) -> bool
     }
 }
 
+/// Whether a `getchar` comes next.
+pub fn reads(next: Option<&CStatement>) -> bool
+    ensures { result ≡ reads_in (option_copied next.entry) }
+{
+    match next {
+        Some(statement) => is_reading(statement),
+        None => false,
+    }
+}
+
 impl Runner {
-    /// Leaves each list of statements that is done.
-    pub fn settle(&mut self, program: &CProgram)
+    /// Leaves each list of statements that is done, and gives the statement that comes next.
+    pub fn settle<'p>(&mut self, program: &'p CProgram) -> Option<&'p CStatement>
         requires fits { FitsFrames program.now self.old }
+        ensures next { option_copied result ≡ statement_at program.now self.new.frame }
+        ensures small { IfSome result (λ s. self.new.frame.spot.at + 1 < 2 ^ 64) }
         ensures same { (input output calls : List ℕ) → state_of program.now self.new input output calls ≡ state_of program.now self.old input output calls }
         ensures settled { IsSettled program.now self.new.frame }
         ensures fits { FitsFrames program.now self.new }
     {
         let text = written_text(program, self.frame.function);
-        self.frame.spot.settle(text.body);
+        let list = self.frame.spot.settle(text.body);
+        at(list, self.frame.spot.at)
     }
 
     /// The statement that comes next, where the list is not done.
@@ -43,16 +56,6 @@ impl Runner {
             list_at(text.body, self.frame.spot.outer.as_slice()),
             self.frame.spot.at,
         )
-    }
-
-    /// Whether a `getchar` comes next.
-    pub fn reads(&self, program: &CProgram) -> bool
-        ensures { result ≡ reads_here program.now self.now.frame }
-    {
-        match self.current(program) {
-            Some(statement) => is_reading(statement),
-            None => false,
-        }
     }
 
     /// Whether the `getchar` that comes next has a place for its byte.
@@ -121,16 +124,18 @@ impl Runner {
         }
     }
 
-    /// A step that is no `getchar`.
-    pub fn step(&mut self, program: &CProgram) -> Result<Done, Halt>
+    /// A step that is no `getchar`: this is the statement that comes next, if there is one.
+    pub fn step(&mut self, program: &CProgram, next: Option<&CStatement>) -> Result<Done, Halt>
         requires fits { FitsFrames program.now self.old }
         requires settled { IsSettled program.now self.old.frame }
-        requires other { reads_here program.now self.old.frame ≡ false }
+        requires next { option_copied next ≡ statement_at program.now self.old.frame }
+        requires small { IfSome next (λ s. self.old.frame.spot.at + 1 < 2 ^ 64) }
+        requires other { reads_in (option_copied next) ≡ false }
         ensures act { (input output calls : List ℕ)
             → Acts program.now self.new input output calls result (CStep program.now (state_of program.now self.old input output calls)) }
         ensures fits { OnOk result (FitsFrames program.now self.new) }
     {
-        match self.current(program) {
+        match next {
             None => self.leave(program, &None),
             Some(statement) => self.act(program, statement),
         }
@@ -162,7 +167,7 @@ impl Runner {
                 self.choose_between(program, e, body.as_slice(), other.as_slice())
             }
             CStatementNode::While(e, body) => self.turn(program, e, body.as_slice()),
-            CStatementNode::Goto(label) => self.jump(program, label.as_slice()),
+            CStatementNode::Goto(label) => self.jump(program, label),
             CStatementNode::Label(label) => self.pass(program, label.as_slice()),
             CStatementNode::Return(e) => self.give(program, e),
         }

@@ -1,5 +1,5 @@
 //! The parts of a call.
-ghost use Rattle.std.specs.Prelude.{◌≡◌, ◌<◌, IfOk, IfSome, length, reverse};
+ghost use Rattle.std.specs.Prelude.{◌≡◌, ◌<◌, Some, IfOk, IfSome, length, reverse};
 ghost use Rattle.c_meaning.specs.Answer.{Got};
 ghost use Rattle.c_meaning.specs.Evaluate as e;
 ghost use Rattle.c_meaning.specs.Steps as m;
@@ -17,7 +17,8 @@ use c_cells::fresh::copy_type;
 use c_cells::memory::{Block, Memory};
 use c_evaluation::evaluate::{place_of, value_of};
 use c_evaluation::halt::Halt;
-use c_evaluation::lookup::function_place;
+use c_evaluation::lookup::{function_place, number_of};
+use c_evaluation::numbers::value_in;
 use c_evaluation::place::Site;
 use c_evaluation::read::{name_value, root_number};
 use c_evaluation::scope::Scope;
@@ -126,8 +127,54 @@ fn function_called(scope: &Scope, value: &Value) -> Result<Option<usize>, Halt>
     }
 }
 
+/// The function of a name that names no variable, where its text stands above or here.
+#[tactic(auto, using(crate::proofs::Calling::direct))]
+fn direct_function(scope: &Scope, name: &Name) -> Option<usize>
+    requires { HasRoom scope.now }
+    ensures value { IfSome result (λ n. callee_function scope.now.program.now (view_at scope.now) (CCallee.Direct name.now) ≡ Got (Some n)) }
+    ensures within { IfSome result (λ n. n < length scope.now.program.now.functions) }
+{
+    match number_of(scope, name) {
+        Some(_) => None,
+        None => match function_place(scope, name) {
+            Some(function) => {
+                if function < scope.reach {
+                    Some(function)
+                } else {
+                    None
+                }
+            }
+            None => None,
+        },
+    }
+}
+
+/// The same of a callee.
+fn direct_callee(scope: &Scope, who: &CCallee) -> Option<usize>
+    requires { HasRoom scope.now }
+    ensures value { IfSome result (λ n. callee_function scope.now.program.now (view_at scope.now) who.now ≡ Got (Some n)) }
+    ensures within { IfSome result (λ n. n < length scope.now.program.now.functions) }
+{
+    match who {
+        CCallee::Direct(name) => direct_function(scope, name),
+        CCallee::Indirect(_) => None,
+    }
+}
+
 /// The function that is called.
 fn callee_function<'a>(scope: &Scope<'a>, who: &'a CCallee) -> Result<Option<usize>, Halt>
+    requires { HasRoom scope.now }
+    ensures value { Tells (λ o. o) result (callee_function scope.now.program.now (view_at scope.now) who.now) }
+    ensures within { IfOk result (λ o. IfSome o (λ n. n < length scope.now.program.now.functions)) }
+{
+    match direct_callee(scope, who) {
+        Some(function) => Ok(Some(function)),
+        None => callee_by_value(scope, who),
+    }
+}
+
+/// The function that a value points to.
+fn callee_by_value<'a>(scope: &Scope<'a>, who: &'a CCallee) -> Result<Option<usize>, Halt>
     requires { HasRoom scope.now }
     ensures value { Tells (λ o. o) result (callee_function scope.now.program.now (view_at scope.now) who.now) }
     ensures within { IfOk result (λ o. IfSome o (λ n. n < length scope.now.program.now.functions)) }
@@ -214,7 +261,7 @@ fn values<'s, 'a>(scope: &'s Scope<'a>, arguments: &'a [CExpr]) -> Result<Items<
     let mut list = Items::new(scope.alloc);
     let mut rest = arguments;
     while let [first, after @ ..] = rest {
-        list.push(value_of(scope, first)?)?;
+        list.push(value_in(scope, first)?)?;
         rest = after;
     }
     Ok(list)

@@ -11,13 +11,14 @@ ghost use Rattle.c_meaning.specs.Steps as m;
 ghost use Rattle.c_meaning.specs.Steps.{Onward, do_statement, names_from};
 ghost use Rattle.c_evaluation.specs.Halts.{Tells};
 ghost use Rattle.c_evaluation.specs.Types.{object_of};
-ghost use Rattle.name_tables.specs.Tables.{Fits};
+ghost use Rattle.c_stepper.specs.Guides.{IsGuide};
 ghost use Rattle.c_stepper.specs.Spots.{todo_at};
 ghost use Rattle.c_stepper.specs.Runners.{state_of, runner_view, body_at, frame_of, frames_of, target_of as meant, parts_at, variables_at, FitsFrame, FitsFrames, Acts, name_at};
 ghost use Rattle.c_stepper.specs.Calls.{IsEntry, entered_of, entered, entered_state, entry_done};
 ghost use Rattle.c_stepper.specs.Leaving.{given_of, Answers};
 
 use crate::call::{Entry, entered};
+use crate::guide::Guide;
 use crate::leave::{Given, answer_stored, forget_variables, put_answer, returned, status_of};
 use crate::names::ends_in_number;
 use crate::runner::{Done, Frame, Runner, Target, written_text};
@@ -30,7 +31,6 @@ use c_evaluation::types::Object;
 use c_tree::expr::{CExpr, CPlace};
 use c_tree::program::CProgram;
 use c_tree::statement::CCallee;
-use name_tables::Tables;
 use std::alloc::{AllocError, Global};
 use std::mem;
 
@@ -88,7 +88,7 @@ impl Runner {
         ensures state { IfOk result (λ it. (input : List ℕ) → state_of program.now it input [] [] ≡ start program.now input) }
         ensures fits { IfOk result (FitsFrames program.now) }
     {
-        let tables = Tables::new(alloc, program)?;
+        let guide = Guide::new(alloc, program)?;
         let mut memory = Memory::new(alloc);
         let declared = program.declarations.as_slice();
         let base = push_fresh(
@@ -111,7 +111,7 @@ impl Runner {
             frame,
             below: Vec::new(alloc),
             memory,
-            tables,
+            guide,
             alloc,
         })
     }
@@ -125,7 +125,7 @@ impl Runner {
         arguments: &'a [CExpr],
     ) -> Result<Entry, Halt>
         requires fits { FitsFrame program.now self.now.frame }
-        requires tables { Fits program.now self.now.tables }
+        requires guide { IsGuide program.now self.now.guide }
         ensures entry { IfOk result (IsEntry program.now) }
         ensures value { Tells entered_of result (entered program.now (runner_view program.now self.now) into.now who.now arguments.now) }
     {
@@ -145,7 +145,7 @@ impl Runner {
         ensures made { OnOk result (self.new.memory ≡ self.old.memory ++ (parameters ++ fresh_blocks false program.now.declarations (parts_at program.now (Some function)).locals)) }
         ensures fits { OnOk result (length self.old.memory + (length (parts_at program.now (Some function)).parameters + length (parts_at program.now (Some function)).locals) < 2 ^ 63) }
         ensures rest { (self.new.frame ≡ self.old.frame) × (self.new.below.items ≡ self.old.below.items) }
-        ensures tables { self.new.tables ≡ self.old.tables }
+        ensures guide { self.new.guide ≡ self.old.guide }
     {
         let base = self.memory.made();
         let text = written_text(program, Some(function));
@@ -214,7 +214,7 @@ impl Runner {
         e: &'p Option<CExpr>,
     ) -> Result<Option<Given<'p>>, Halt>
         requires fits { FitsFrame program.now self.now.frame }
-        requires tables { Fits program.now self.now.tables }
+        requires guide { IsGuide program.now self.now.guide }
         ensures { Tells (option_map given_of) result (m.returned (runner_view program.now self.now) (parts_at program.now self.now.frame.function).result e.now) }
     {
         let of = result_of(program, self.frame.function);
@@ -225,7 +225,7 @@ impl Runner {
     /// The store of an answer.
     fn answer(&self, program: &CProgram, answer: &Option<Given>) -> Result<Option<Store>, Halt>
         requires fits { FitsFrame program.now self.now.frame }
-        requires tables { Fits program.now self.now.tables }
+        requires guide { IsGuide program.now self.now.guide }
         ensures { (blocks : Blocks) → Answers blocks result (m.answered program.now.declarations blocks (meant self.now.frame.target) (option_map given_of answer.now)) }
     {
         let scope = self.scope(program);
@@ -253,12 +253,12 @@ impl Runner {
         answer: &Option<Given>,
     ) -> Result<Done, Halt>
         requires fits { FitsFrame program.now self.old.frame }
-        requires tables { Fits program.now self.old.tables }
+        requires guide { IsGuide program.now self.old.guide }
         ensures act { (input output calls : List ℕ) → Acts program.now self.new input output calls result
             (m.leave_to program.now (state_of program.now self.old input output calls) (frame_of program.now frame ∷ frames_of program.now self.old.below.items []) (option_map given_of answer.now)) }
         ensures frame { OnOk result (self.new.frame ≡ frame) }
         ensures below { self.new.below.items ≡ self.old.below.items }
-        ensures tables { self.new.tables ≡ self.old.tables }
+        ensures guide { self.new.guide ≡ self.old.guide }
     {
         let store = self.answer(program, answer)?;
         self.forget_frame(program);
@@ -276,7 +276,7 @@ impl Runner {
     }
 
     /// The end of the function that runs.
-    #[tactic(auto, using(crate::proofs::Stepping::tables_fit))]
+    #[tactic(auto, using(crate::proofs::Stepping::guide_stays))]
     pub fn leave(&mut self, program: &CProgram, answer: &Option<Given>) -> Result<Done, Halt>
         requires fits { FitsFrames program.now self.old }
         ensures act { (input output calls : List ℕ) → Acts program.now self.new input output calls result

@@ -18,8 +18,8 @@ use c_cells::Path;
 use c_cells::cell::copied;
 use c_cells::memory::Memory;
 use c_cells::tree::{CellTree, CellTreeNode};
-use c_evaluation::evaluate::value_of;
 use c_evaluation::halt::Halt;
+use c_evaluation::numbers::value_in;
 use c_evaluation::read::scalar_value;
 use c_evaluation::scope::Scope;
 use c_evaluation::store::{Store, converted, taken};
@@ -69,7 +69,7 @@ pub fn returned<'a, 'p>(
     match e {
         None => Ok(None),
         Some(e) => {
-            let value = value_of(scope, e)?;
+            let value = value_in(scope, e)?;
             let given = result_given(scope, of, value)?;
             Ok(Some(given))
         }

@@ -7,7 +7,7 @@
 mod act;
 mod call;
 mod frames;
-mod label;
+mod guide;
 mod leave;
 mod machine;
 mod names;

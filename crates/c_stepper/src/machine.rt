@@ -1,17 +1,20 @@
 //! A machine that runs a program.
-ghost use Rattle.std.specs.Prelude.{◌≡◌, ◌≢◌, ◌<◌, ◌≤◌, ◌⊎◌, ◌+◌, ◌^◌, ◌++◌, ◌∷◌, ℕ, Option, List, [], Err, Ok, IfOk, Some, None, true, false, length};
+ghost use Rattle.std.specs.Prelude.{◌≡◌, ◌≢◌, ◌<◌, ◌≤◌, ◌⊎◌, ◌+◌, ◌^◌, ◌++◌, ◌∷◌, ℕ, Option, List, [], Err, Ok, IfOk, IfSome, Some, None, true, false, length};
+ghost use Rattle.std.specs.Option.{option_copied};
 ghost use Rattle.c_meaning.specs.Steps.{Next, CStep};
 ghost use Rattle.p2c_outside.specs.Counts.{Rose};
 ghost use Rattle.p2c_outside.specs.Told.{Gains, IsEmpty};
 ghost use Rattle.held_bytes.specs.Written.{GainsPart};
 ghost use Rattle.held_bytes.specs.Held.{bytes_in, IsDry};
-ghost use Rattle.c_stepper.specs.Runners.{FitsFrames, IsSettled, reads_here, Acts};
+ghost use Rattle.c_stepper.specs.Runners.{FitsFrames, IsSettled, statement_at, reads_in, reads_here, Acts};
 ghost use Rattle.c_stepper.specs.Machines.{stood, IsFor, Begins, Steps, Takes, Closes, Writes, IsOver, SameBut, PutFaults, TakeFaults, RunFaults, Ran, TakesFew, HasStatus, ended_by};
 
+use crate::act::reads;
 use crate::runner::{Done, Runner};
 use c_evaluation::halt::Halt;
 use c_meaning::StuckKind;
 use c_tree::program::CProgram;
+use c_tree::statement::CStatement;
 use held_bytes::{HeldInput, HeldOutput};
 use p2c_outside::{Sink, Source};
 use std::alloc::{AllocError, Global};
@@ -180,12 +183,19 @@ impl Machine {
         }
     }
 
-    /// A step that is no `getchar`.
-    fn act<O: Sink>(&mut self, program: &CProgram, out: &mut O) -> Stepped
+    /// A step that is no `getchar`: this is the statement that comes next, if there is one.
+    fn act<O: Sink>(
+        &mut self,
+        program: &CProgram,
+        next: Option<&CStatement>,
+        out: &mut O,
+    ) -> Stepped
         requires is_for { IsFor program.now self.old }
         requires going { self.old.over ≡ None }
         requires settled { IsSettled program.now self.old.runner.frame }
-        requires other { reads_here program.now self.old.runner.frame ≡ false }
+        requires next { option_copied next ≡ statement_at program.now self.old.runner.frame }
+        requires small { IfSome next (λ s. self.old.runner.frame.spot.at + 1 < 2 ^ 64) }
+        requires other { reads_in (option_copied next) ≡ false }
         requires few { self.old.taken + 1 < 2 ^ 64 }
         ensures step { (left output calls : List ℕ) → length calls ≡ self.old.calls
             → Steps program.now self.old.output.bytes.items self.old.calls self.new (Some left) (O.written out.old) (O.written out.new) output calls result (CStep program.now (stood program.now self.old left output calls)) }
@@ -196,7 +206,7 @@ impl Machine {
         ensures faults { PutFaults (O.faults out.old) (O.faults out.new) result }
         ensures no_input { result ≢ Stepped.InputFault }
     {
-        match self.runner.step(program) {
+        match self.runner.step(program, next) {
             Ok(done) => self.after(done, out),
             Err(halt) => self.halt(halt, out),
         }
@@ -327,11 +337,11 @@ impl Machine {
         if let Some(answer) = self.over {
             return answer;
         }
-        self.runner.settle(program);
-        if self.runner.reads(program) {
+        let next = self.runner.settle(program);
+        if reads(next) {
             self.read(program, input, out)
         } else {
-            self.act(program, out)
+            self.act(program, next, out)
         }
     }
 }

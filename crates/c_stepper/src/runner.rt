@@ -8,10 +8,10 @@ ghost use Rattle.c_meaning.specs.Steps.{do_statement, after_byte};
 ghost use Rattle.c_evaluation.specs.Stores.{Stores, Finds, byte_stored, address_stored, without_one, Frees, freed_of};
 ghost use Rattle.c_stepper.specs.Spots.{list_in, todo_at};
 ghost use Rattle.c_evaluation.specs.Scopes.{view_at, HasRoom};
-ghost use Rattle.name_tables.specs.Tables.{Fits};
+ghost use Rattle.c_stepper.specs.Guides.{IsGuide};
 ghost use Rattle.c_stepper.specs.Runners.{state_of, runner_view, body_at, text_at, text_of, first_of, FitsFrame, Stays, Acts};
 
-use crate::label::find_in;
+use crate::guide::Guide;
 use crate::spot::Spot;
 use c_cells::Path;
 use c_cells::fresh::fresh_block;
@@ -20,11 +20,11 @@ use c_evaluation::halt::Halt;
 use c_evaluation::scope::Scope;
 use c_evaluation::store::{Store, assigned, found, freed, got, malloced, put, test};
 use c_meaning::StuckKind;
+use c_tree::Name;
 use c_tree::expr::{CExpr, CPlace};
 use c_tree::program::{CProgram, CVariable};
 use c_tree::statement::CStatement;
 use c_tree::types::CType;
-use name_tables::Tables;
 use std::alloc::Global;
 
 /// What a statement did beside the change of the frames and the memory.
@@ -61,7 +61,7 @@ pub struct Runner {
     pub frame: Frame,
     pub below: Vec<Frame>,
     pub memory: Memory,
-    pub tables: Tables,
+    pub guide: Guide,
     pub alloc: Global,
 }
 
@@ -101,7 +101,7 @@ pub fn written_text<'a>(program: &'a CProgram, function: Option<usize>) -> Text<
 impl Runner {
     pub fn scope<'a>(&'a self, program: &'a CProgram) -> Scope<'a>
         requires fits { FitsFrame program.now self.now.frame }
-        requires tables { Fits program.now self.now.tables }
+        requires guide { IsGuide program.now self.now.guide }
         ensures view { view_at result ≡ runner_view program.now self.now }
         ensures room { HasRoom result }
         ensures memory { result.memory.now ≡ self.now.memory }
@@ -110,7 +110,7 @@ impl Runner {
         let text = written_text(program, self.frame.function);
         Scope {
             program,
-            tables: &self.tables,
+            tables: &self.guide.names,
             reach: self.frame.reach,
             parameters: text.parameters,
             locals: text.locals,
@@ -128,7 +128,7 @@ impl Runner {
         e: &'a CExpr,
     ) -> Result<Store, Halt>
         requires fits { FitsFrame program.now self.now.frame }
-        requires tables { Fits program.now self.now.tables }
+        requires guide { IsGuide program.now self.now.guide }
         ensures { Stores self.now.memory result (m.assign (runner_view program.now self.now) place.now e.now) }
     {
         let scope = self.scope(program);
@@ -138,7 +138,7 @@ impl Runner {
     /// Whether the place of `place = getchar();` is there.
     pub fn finds(&self, program: &CProgram, place: &CPlace) -> Result<(), Halt>
         requires fits { FitsFrame program.now self.now.frame }
-        requires tables { Fits program.now self.now.tables }
+        requires guide { IsGuide program.now self.now.guide }
         ensures { Finds result (v.place (runner_view program.now self.now) place.now) }
     {
         let scope = self.scope(program);
@@ -153,7 +153,7 @@ impl Runner {
         byte: Option<u8>,
     ) -> Result<Store, Halt>
         requires fits { FitsFrame program.now self.now.frame }
-        requires tables { Fits program.now self.now.tables }
+        requires guide { IsGuide program.now self.now.guide }
         ensures { Stores self.now.memory result (byte_stored (runner_view program.now self.now) place.now byte) }
     {
         let scope = self.scope(program);
@@ -162,7 +162,7 @@ impl Runner {
 
     pub fn assign(&mut self, program: &CProgram, place: &CPlace, e: &CExpr) -> Result<Done, Halt>
         requires fits { FitsFrame program.now self.old.frame }
-        requires tables { Fits program.now self.old.tables }
+        requires guide { IsGuide program.now self.old.guide }
         requires small { self.old.frame.spot.at + 1 < 2 ^ 64 }
         ensures act { (input output calls : List ℕ) → Acts program.now self.new input output calls result
             (do_statement program.now (runner_view program.now self.old) (state_of program.now self.old input output calls)
@@ -182,7 +182,7 @@ impl Runner {
         byte: Option<u8>,
     ) -> Result<Done, Halt>
         requires fits { FitsFrame program.now self.old.frame }
-        requires tables { Fits program.now self.old.tables }
+        requires guide { IsGuide program.now self.old.guide }
         requires small { self.old.frame.spot.at + 1 < 2 ^ 64 }
         ensures act { (input output calls : List ℕ) → byte ≡ first_of input → Acts program.now self.new (after_byte input) output calls result
             (do_statement program.now (runner_view program.now self.old) (state_of program.now self.old input output calls)
@@ -198,7 +198,7 @@ impl Runner {
 
     pub fn put_char(&mut self, program: &CProgram, e: &CExpr) -> Result<Done, Halt>
         requires fits { FitsFrame program.now self.old.frame }
-        requires tables { Fits program.now self.old.tables }
+        requires guide { IsGuide program.now self.old.guide }
         requires small { self.old.frame.spot.at + 1 < 2 ^ 64 }
         ensures act { (input output calls : List ℕ) → Acts program.now self.new input output calls result
             (do_statement program.now (runner_view program.now self.old) (state_of program.now self.old input output calls)
@@ -217,7 +217,7 @@ impl Runner {
         body: &[CStatement],
     ) -> Result<Done, Halt>
         requires fits { FitsFrame program.now self.old.frame }
-        requires tables { Fits program.now self.old.tables }
+        requires guide { IsGuide program.now self.old.guide }
         requires small { self.old.frame.spot.at + 1 < 2 ^ 64 }
         requires here { slice_get (list_in (body_at program.now self.old.frame) self.old.frame.spot.outer.items) self.old.frame.spot.at ≡ Some (t.If e.now (body_of body.now)) }
         ensures act { (input output calls : List ℕ) → Acts program.now self.new input output calls result
@@ -242,7 +242,7 @@ impl Runner {
         other: &[CStatement],
     ) -> Result<Done, Halt>
         requires fits { FitsFrame program.now self.old.frame }
-        requires tables { Fits program.now self.old.tables }
+        requires guide { IsGuide program.now self.old.guide }
         requires here { slice_get (list_in (body_at program.now self.old.frame) self.old.frame.spot.outer.items) self.old.frame.spot.at ≡ Some (t.IfElse e.now (body_of body.now) (body_of other.now)) }
         ensures act { (input output calls : List ℕ) → Acts program.now self.new input output calls result
             (do_statement program.now (runner_view program.now self.old) (state_of program.now self.old input output calls)
@@ -256,7 +256,7 @@ impl Runner {
 
     pub fn turn(&mut self, program: &CProgram, e: &CExpr, body: &[CStatement]) -> Result<Done, Halt>
         requires fits { FitsFrame program.now self.old.frame }
-        requires tables { Fits program.now self.old.tables }
+        requires guide { IsGuide program.now self.old.guide }
         requires small { self.old.frame.spot.at + 1 < 2 ^ 64 }
         requires here { slice_get (list_in (body_at program.now self.old.frame) self.old.frame.spot.outer.items) self.old.frame.spot.at ≡ Some (t.While e.now (body_of body.now)) }
         ensures act { (input output calls : List ℕ) → Acts program.now self.new input output calls result
@@ -287,17 +287,16 @@ impl Runner {
     }
 
     /// The function goes on at a label of its text.
-    pub fn jump(&mut self, program: &CProgram, label: &[u8]) -> Result<Done, Halt>
+    pub fn jump(&mut self, program: &CProgram, label: &Name) -> Result<Done, Halt>
+        requires guide { IsGuide program.now self.old.guide }
         ensures act { (input output calls : List ℕ) → Acts program.now self.new input output calls result
             (do_statement program.now (runner_view program.now self.old) (state_of program.now self.old input output calls)
             (todo_at (body_at program.now self.old.frame) self.old.frame.spot.outer.items (self.old.frame.spot.at + 1)) (t.Goto label.now)) }
         ensures stays { Stays self.old self.new }
     {
-        self.frame.spot.outer.clear();
-        let text = written_text(program, self.frame.function);
-        match find_in(text.body, label, &mut self.frame.spot.outer)? {
-            Some(at) => {
-                self.frame.spot.at = at;
+        match self.guide.labels.get(self.frame.function, label) {
+            Some(way) => {
+                self.frame.spot.follow(way)?;
                 Ok(Done::Going)
             }
             None => Err(Halt::Stuck(StuckKind::UnknownName)),
@@ -312,7 +311,7 @@ impl Runner {
         of: &'a CType,
     ) -> Result<Store, Halt>
         requires fits { FitsFrame program.now self.now.frame }
-        requires tables { Fits program.now self.now.tables }
+        requires guide { IsGuide program.now self.now.guide }
         ensures { Stores self.now.memory result (address_stored (runner_view program.now self.now) self.now.memory place.now of.now) }
     {
         let scope = self.scope(program);
@@ -321,7 +320,7 @@ impl Runner {
 
     pub fn malloc(&mut self, program: &CProgram, place: &CPlace, of: &CType) -> Result<Done, Halt>
         requires fits { FitsFrame program.now self.old.frame }
-        requires tables { Fits program.now self.old.tables }
+        requires guide { IsGuide program.now self.old.guide }
         requires small { self.old.frame.spot.at + 1 < 2 ^ 64 }
         ensures act { (input output calls : List ℕ) → Acts program.now self.new input output calls result
             (do_statement program.now (runner_view program.now self.old) (state_of program.now self.old input output calls)
@@ -341,7 +340,7 @@ impl Runner {
     /// The number of the block that `free(e);` makes be gone, or none where nothing is freed.
     fn freeing<'a>(&'a self, program: &'a CProgram, e: &'a CExpr) -> Result<Option<usize>, Halt>
         requires fits { FitsFrame program.now self.now.frame }
-        requires tables { Fits program.now self.now.tables }
+        requires guide { IsGuide program.now self.now.guide }
         ensures { Frees self.now.memory result (freed_of (runner_view program.now self.now) self.now.memory e.now) }
     {
         let scope = self.scope(program);
@@ -350,7 +349,7 @@ impl Runner {
 
     pub fn free(&mut self, program: &CProgram, e: &CExpr) -> Result<Done, Halt>
         requires fits { FitsFrame program.now self.old.frame }
-        requires tables { Fits program.now self.old.tables }
+        requires guide { IsGuide program.now self.old.guide }
         requires small { self.old.frame.spot.at + 1 < 2 ^ 64 }
         ensures act { (input output calls : List ℕ) → Acts program.now self.new input output calls result
             (do_statement program.now (runner_view program.now self.old) (state_of program.now self.old input output calls)

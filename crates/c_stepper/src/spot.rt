@@ -5,14 +5,8 @@ ghost use Rattle.std.specs.Prelude.{◌+◌, IfSome, ◌≡◌, ◌<◌, ◌⊎�
 ghost use Rattle.c_stepper.specs.Spots.{list_in, branch_of, after_of, todo_of};
 
 use c_tree::statement::{CStatement, CStatementNode};
+use label_ways::{Level, Way};
 use std::alloc::{AllocError, Global};
-
-/// A statement that the function is inside of: its place in its list, and whether in its second branch.
-#[derive(Clone, Copy, Debug, PartialEq, Eq)]
-pub struct Level {
-    pub at: usize,
-    pub second: bool,
-}
 
 /// The list of a branch, and nothing of a statement without one.
 #[tactic(auto, using(crate::proofs::Todo::branch_list))]
@@ -78,20 +72,34 @@ impl Spot {
         }
     }
 
-    /// Leaves each list that is done.
+    /// Leaves each list that is done, and gives the list in which it stands.
     #[tactic(auto, using(crate::proofs::Todo::todo_done))]
-    pub fn settle(&mut self, body: &[CStatement])
+    pub fn settle<'b>(&mut self, body: &'b [CStatement]) -> &'b [CStatement]
+        ensures list { result.now ≡ list_in body.now self.new.outer.items }
         ensures same { todo_of body.now self.new ≡ todo_of body.now self.old }
         ensures settled { self.new.at < length (list_in body.now self.new.outer.items) ⊎ (self.new.outer.items ≡ []) }
     {
-        while self.at >= list_at(body, self.outer.as_slice()).len() {
+        let mut list = list_at(body, self.outer.as_slice());
+        while self.at >= list.len() {
             match self.outer.pop() {
-                None => return,
+                None => return list,
                 Some(level) => {
-                    self.at = after(list_at(body, self.outer.as_slice()), level.at);
+                    list = list_at(body, self.outer.as_slice());
+                    self.at = after(list, level.at);
                 }
             }
         }
+        list
+    }
+
+    /// Goes to the end of a way.
+    pub fn follow(&mut self, way: &Way) -> Result<(), AllocError>
+        ensures { OnOk result ((self.new.outer.items ≡ way.now.outer.items) × (self.new.at ≡ way.now.at)) }
+    {
+        self.outer.clear();
+        self.outer.extend_from_slice(way.outer.as_slice())?;
+        self.at = way.at;
+        Ok(())
     }
 
     /// Goes into a branch of the statement that comes next.

@@ -4,7 +4,7 @@ use Rattle.c_stepper.specs.declared.runner.Frame.{Frame}
 use Rattle.c_stepper.specs.declared.runner.Runner.{Runner}
 use Rattle.c_stepper.specs.Spots.{todo_at}
 use Rattle.c_stepper.specs.Runners.{target_of, state_of, frame_of, body_at, FitsFrame}
-use Rattle.name_tables.specs.Tables.{Fits}
+use Rattle.c_stepper.specs.Guides.{IsGuide}
 use Rattle.c_stepper.specs.Calls.{entered_of, entered_state}
 use Rattle.c_stepper.proofs.Entering.{begins, fits_begun, entry_done_is}
 use Rattle.c_stepper.proofs.runner.Runner.enter.Goals as goal
@@ -18,7 +18,7 @@ returns-clause-act c = λ input output calls.
     let blocks : Blocks = c.args.entry.parameters in
     let caller = c.replace-caller.result in
     let rest = todo_at (body_at p old.frame) old.frame.spot.outer.items (old.frame.spot.at + 1) in
-    let new : Runner = record { frame = c.replace-caller.new.dest; below = c.push_frame.new.below; memory = c.make_blocks.new.self.memory; tables = c.make_blocks.new.self.tables; alloc = c.make_blocks.new.self.alloc } in
+    let new : Runner = record { frame = c.replace-caller.new.dest; below = c.push_frame.new.below; memory = c.make_blocks.new.self.memory; guide = c.make_blocks.new.self.guide; alloc = c.make_blocks.new.self.alloc } in
     let after = c.replace-caller.ensures.after in
     let step : Frame → Frame = λ f. record f { spot = record { outer = f.spot.outer; at = f.spot.at + 1 } } in
     let reach : c.in-Some.reach ≡ n + 1 = omega (arith, c.in-Some.ensures) in
@@ -34,9 +34,9 @@ returns-clause-fits c =
     let old = c.args.self.now in
     let n = c.args.entry.function in
     let caller = c.replace-caller.result in
-    let new : Runner = record { frame = c.replace-caller.new.dest; below = c.push_frame.new.below; memory = c.make_blocks.new.self.memory; tables = c.make_blocks.new.self.tables; alloc = c.make_blocks.new.self.alloc } in
+    let new : Runner = record { frame = c.replace-caller.new.dest; below = c.push_frame.new.below; memory = c.make_blocks.new.self.memory; guide = c.make_blocks.new.self.guide; alloc = c.make_blocks.new.self.alloc } in
     let after = c.replace-caller.ensures.after in
     let step : Frame → Frame = λ f. record f { spot = record { outer = f.spot.outer; at = f.spot.at + 1 } } in
     let is : caller ≡ step old.frame = c.replace-caller.ensures.value ∙ ap step c.in_ok-base.ensures.rest.0 in
     fits_begun p old new caller n (target_of c.args.entry.target) c.args.entry.parameters c.requires.fits (ap (λ (f : Frame). f.function) after) (ap (λ (f : Frame). f.base) after ∙ c.in_ok-base.ensures.base) c.in_ok-base.ensures.fits
-    (c.in_ok-push_frame.ensures ∙ ap (λ (l : List Frame). l ++ caller ∷ []) c.in_ok-base.ensures.rest.1) (subst (FitsFrame p) (sym is) c.requires.fits.frame) (subst (Fits p) (sym c.in_ok-base.ensures.tables) c.requires.fits.tables)
+    (c.in_ok-push_frame.ensures ∙ ap (λ (l : List Frame). l ++ caller ∷ []) c.in_ok-base.ensures.rest.1) (subst (FitsFrame p) (sym is) c.requires.fits.frame) (subst (IsGuide p) (sym c.in_ok-base.ensures.guide) c.requires.fits.guide)

@@ -4,7 +4,7 @@ use Rattle.c_evaluation.specs.Values.{value_of}
 use Rattle.c_evaluation.specs.Scopes.{view_at}
 use Rattle.c_evaluation.proofs.Evaluations.{exit, onward_with}
 use Rattle.c_stepper.specs.Calls.{callee_value, function_called}
-use Rattle.c_stepper.proofs.call.callee_function.Goals as goal
+use Rattle.c_stepper.proofs.call.callee_by_value.Goals as goal
 
 pub returns-in_err-value-clause-value : goal.returns-in_err-value-clause-value
 returns-in_err-value-clause-value c =
