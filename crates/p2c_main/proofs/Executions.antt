@@ -1,18 +1,18 @@
 -- What a run of a text answers.
-use Rattle.std.proofs.Common.{◌≡◌, ◌≢◌, ℕ, ◌<◌, ◌≤◌, List, length, Option, Some, None, Bool, true, false, IsTrue, nat_le, if◌then◌else◌, ◌⊎◌, inl, inr, refl, subst, ◌∙◌, ap, sym, arith, Result, Ok, Err, IfOk, IfErr}
+use Rattle.std.proofs.Common.{◌≡◌, ◌≢◌, ℕ, ◌<◌, ◌≤◌, List, length, Option, Some, None, ◌⊎◌, inl, inr, refl, subst, ◌∙◌, ap, sym, arith, Result, Ok, Err, IfOk, IfErr}
 use Rattle.c_meaning.specs.Runs.{CAnswer, CRun}
 use Rattle.c_grammar.specs.declared.fault.CTextKind.{CTextKind}
 use Rattle.c_reader.specs.Read.{IsFault, IsNoText}
 use Rattle.c_reader.specs.declared.fault.CTextFault.{CTextFault}
 use Rattle.c_reader.specs.declared.fault.CTextFault.TheVariants as fault
-use Rattle.c_stepper.specs.Machines.{RunFaults, told}
+use Rattle.c_stepper.specs.Machines.{RunFaults, HasStatus, told}
 use Rattle.c_stepper.specs.declared.machine.Ended as e
 use Rattle.c_stepper.specs.declared.machine.Ended.TheVariants as ended
 use Rattle.p2c_outside.specs.Counts.{Rose}
 use Rattle.p2c_outside.specs.Told.{Named, WhereTold, Gains}
 use Rattle.run_core.specs.Answers.{IsRun}
 use Rattle.p2c_main.specs.Answers.{RunAnswer, IsEarly}
-use Rattle.p2c_main.specs.Executed.{Executes, ExecutesPart, InputFails, CutsOff, OfFile, ReadFails, TakesOnly, ended_as, outcome_with, outcome_of_run}
+use Rattle.p2c_main.specs.Executed.{Executes, ExecutesPart, InputFails, CutsOff, OfFile, ReadFails, TakesOnly, ended_as, outcome_of_run}
 use Rattle.p2c_main.specs.Reading.{Lacks, outcome_of}
 use Rattle.p2c_main.specs.declared.reading.ReadRefusal.{ReadRefusal}
 use Rattle.p2c_main.specs.declared.reading.ReadRefusal.TheVariants as reading
@@ -20,18 +20,15 @@ use Rattle.p2c_main.specs.declared.outcome.Outcome.{Outcome}
 use Rattle.p2c_main.specs.declared.outcome.Outcome.TheVariants.{Done, Ended, Usage, TooLong, Unbuilt, BadText, Missing, ReadFault, WriteFault, OutOfMemory, Spent, Stuck}
 use Rattle.p2c_main.proofs.Translations.{told_more}
 
-ended_part : (bytes : List ℕ) (steps status calls : ℕ) (input left' old new : Option (List ℕ)) → IsRun bytes steps input left' old new (ended.Status status calls) → ExecutesPart bytes steps input old new
-ended_part bytes steps status calls input left' old new run = record {
-  program = run.program;
-  text = run.text;
-  ran = λ left is. let r = run.ran left is in (steps, omega arith, subst (λ a. Gains old new (told a)) (sym r.2) r.4);
-}
+small_enough : (status : ℕ) → status < 210 → status ≤ 209
+small_enough status h = omega (arith, h)
 
-ended_answer : (files : Option Named) (name bytes : List ℕ) (steps status calls : ℕ) (input left' old new : Option (List ℕ)) (small : Bool) → (IsTrue small → status ≤ 209)
-    → WhereTold files name (λ b. bytes ≡ b) → IsRun bytes steps input left' old new (ended.Status status calls)
-    → RunAnswer files name steps input old new (if small then Ended status else OutOfMemory)
-ended_answer files name bytes steps status calls input left' old new true below whole run = (
-  below refl,
+-- the answer of the runner, about the file that was read
+pub run_answer : (files : Option Named) (name bytes : List ℕ) (steps : ℕ) (input left' old new : Option (List ℕ)) (a : Result e.Ended CTextFault)
+    → WhereTold files name (λ b. bytes ≡ b) → IfOk a (IsRun bytes steps input left' old new) → IfOk a HasStatus → IfErr a (IsFault bytes) → IfErr a (λ f. new ≡ old)
+    → RunAnswer files name steps input old new (outcome_of_run a)
+run_answer files name bytes steps input left' old new (Ok (ended.Status status calls)) whole run few fails kept = (
+  small_enough status few,
   (
     bytes,
     whole,
@@ -42,18 +39,7 @@ ended_answer files name bytes steps status calls input left' old new true below 
     },
   ),
 )
-ended_answer files name bytes steps status calls input left' old new false below whole run = inr (bytes, whole, ended_part bytes steps status calls input left' old new run)
-
-at_most : (a b : ℕ) → IsTrue (nat_le a b) → a ≤ b
-at_most a b h = grind (arith, h)
-
--- the answer of the runner, about the file that was read
-pub run_answer : (files : Option Named) (name bytes : List ℕ) (steps : ℕ) (input left' old new : Option (List ℕ)) (a : Result e.Ended CTextFault)
-    → WhereTold files name (λ b. bytes ≡ b) → IfOk a (IsRun bytes steps input left' old new) → IfErr a (IsFault bytes) → IfErr a (λ f. new ≡ old)
-    → RunAnswer files name steps input old new (outcome_of_run a)
-run_answer files name bytes steps input left' old new (Ok (ended.Status status calls)) whole run fails kept =
-    ended_answer files name bytes steps status calls input left' old new (nat_le status 209) (at_most status 209) whole run
-run_answer files name bytes steps input left' old new (Ok ended.Spent) whole run fails kept = (
+run_answer files name bytes steps input left' old new (Ok ended.Spent) whole run few fails kept = (
   bytes,
   whole,
   record {
@@ -62,7 +48,7 @@ run_answer files name bytes steps input left' old new (Ok ended.Spent) whole run
     ran = λ left is. let r = run.ran left is in (sym (ap ended_as r.2), subst (λ a. Gains old new (told a)) (sym r.2) r.3);
   },
 )
-run_answer files name bytes steps input left' old new (Ok (ended.Stuck kind)) whole run fails kept = (
+run_answer files name bytes steps input left' old new (Ok (ended.Stuck kind)) whole run few fails kept = (
   bytes,
   whole,
   record {
@@ -71,8 +57,8 @@ run_answer files name bytes steps input left' old new (Ok (ended.Stuck kind)) wh
     ran = λ left is. let r = run.ran left is in (sym (ap ended_as r.1), subst (λ a. Gains old new (told a)) (sym r.1) r.2);
   },
 )
-run_answer files name bytes steps input left' old new (Ok ended.InputFault) whole run fails kept = tt
-run_answer files name bytes steps input left' old new (Ok ended.OutputFault) whole run fails kept = (
+run_answer files name bytes steps input left' old new (Ok ended.InputFault) whole run few fails kept = tt
+run_answer files name bytes steps input left' old new (Ok ended.OutputFault) whole run few fails kept = (
   bytes,
   whole,
   record {
@@ -81,7 +67,7 @@ run_answer files name bytes steps input left' old new (Ok ended.OutputFault) who
     cut = run.ran;
   },
 )
-run_answer files name bytes steps input left' old new (Ok (ended.Memory error)) whole run fails kept = inr (
+run_answer files name bytes steps input left' old new (Ok (ended.Memory error)) whole run few fails kept = inr (
   bytes,
   whole,
   record {
@@ -90,19 +76,15 @@ run_answer files name bytes steps input left' old new (Ok (ended.Memory error)) 
     ran = λ left is. let r = run.ran left is in (r.0.steps, r.0.within, subst (λ a. Gains old new (told a)) (sym r.0.is) r.1);
   },
 )
-run_answer files name bytes steps input left' old new (Err (fault.At kind line)) whole run fails kept =
+run_answer files name bytes steps input left' old new (Err (fault.At kind line)) whole run few fails kept =
     told_more files name (λ b. bytes ≡ b) _ (λ b is. subst (λ s. IsNoText s kind line) is fails) whole
-run_answer files name bytes steps input left' old new (Err (fault.Memory error)) whole run fails kept = inl kept
-
-not_read_with : (small : Bool) (status : ℕ) (P : Type 0) → (if small then Ended status else OutOfMemory) ≡ ReadFault → P
-not_read_with true status P e = absurd cc
-not_read_with false status P e = absurd cc
+run_answer files name bytes steps input left' old new (Err (fault.Memory error)) whole run few fails kept = inl kept
 
 -- a fault in reading is one of the input
 pub input_failed : (bytes : List ℕ) (steps : ℕ) (input left' old new : Option (List ℕ)) (a : Result e.Ended CTextFault) → IfOk a (IsRun bytes steps input left' old new) → outcome_of_run a ≡ ReadFault
     → InputFails bytes steps input left' old new
 input_failed bytes steps input left' old new (Ok ended.InputFault) run is = record { program = run.program; text = run.text; ran = run.ran }
-input_failed bytes steps input left' old new (Ok (ended.Status status calls)) run is = not_read_with (nat_le status 209) status _ is
+input_failed bytes steps input left' old new (Ok (ended.Status status calls)) run is = absurd cc
 input_failed bytes steps input left' old new (Ok ended.Spent) run is = absurd cc
 input_failed bytes steps input left' old new (Ok (ended.Stuck kind)) run is = absurd cc
 input_failed bytes steps input left' old new (Ok ended.OutputFault) run is = absurd cc
@@ -128,11 +110,7 @@ of_file files name bytes P whole (inr holds) = inr (bytes, whole, holds)
 -- ---- what the outcome says of the answer
 
 pub never_missing : (a : Result e.Ended CTextFault) → outcome_of_run a ≢ Missing
-never_missing (Ok (ended.Status status calls)) = not_missing (nat_le status 209) status
-  where
-    not_missing : (small : Bool) (status : ℕ) → (if small then Ended status else OutOfMemory) ≢ Missing
-    not_missing true status = λ e. absurd cc
-    not_missing false status = λ e. absurd cc
+never_missing (Ok (ended.Status status calls)) = λ e. absurd cc
 never_missing (Ok ended.Spent) = λ e. absurd cc
 never_missing (Ok (ended.Stuck kind)) = λ e. absurd cc
 never_missing (Ok ended.InputFault) = λ e. absurd cc
@@ -148,14 +126,14 @@ pub record DeviceFaults (taken taken' put put' : ℕ) (outcome : Outcome) : Type
   pub no_output : outcome ≢ WriteFault → put' ≡ put
   pub output : outcome ≡ WriteFault → Rose put put'
 
-with_faults : (small : Bool) (status taken taken' put put' : ℕ) → taken' ≡ taken → put' ≡ put → DeviceFaults taken taken' put put' (if small then Ended status else OutOfMemory)
-with_faults true status taken taken' put put' input output = record { no_input = λ x. input; input = λ e. absurd cc; no_output = λ x. output; output = λ e. absurd cc }
-with_faults false status taken taken' put put' input output = record { no_input = λ x. input; input = λ e. absurd cc; no_output = λ x. output; output = λ e. absurd cc }
-
 pub device_faults : (taken taken' put put' : ℕ) (a : Result e.Ended CTextFault) → IfOk a (RunFaults taken taken' put put') → IfErr a (λ f. (taken' ≡ taken) × (put' ≡ put))
     → DeviceFaults taken taken' put put' (outcome_of_run a)
-device_faults taken taken' put put' (Ok (ended.Status status calls)) run kept =
-    with_faults (nat_le status 209) status taken taken' put put' (run.no_input (λ x. absurd cc)) (run.no_output (λ x. absurd cc))
+device_faults taken taken' put put' (Ok (ended.Status status calls)) run kept = record {
+  no_input = λ x. run.no_input (λ z. absurd cc);
+  input = λ x. absurd cc;
+  no_output = λ x. run.no_output (λ z. absurd cc);
+  output = λ x. absurd cc;
+}
 device_faults taken taken' put put' (Ok ended.Spent) run kept = record {
   no_input = λ x. run.no_input (λ z. absurd cc);
   input = λ x. absurd cc;
@@ -199,14 +177,10 @@ device_faults taken taken' put put' (Err (fault.Memory error)) run kept = record
   output = λ x. absurd cc;
 }
 
-not_early_with : (small : Bool) (status : ℕ) (P : Type 0) → IsEarly (if small then Ended status else OutOfMemory) → P
-not_early_with true status P early = absurd early
-not_early_with false status P early = absurd early
-
 -- what comes early is a refusal
 pub early_kept : {I O : Type 0} (input input' : I) (out out' : O) (a : Result e.Ended CTextFault) → IfErr a (λ f. (input' ≡ input) × (out' ≡ out)) → IsEarly (outcome_of_run a)
     → (input' ≡ input) × (out' ≡ out)
-early_kept input input' out out' (Ok (ended.Status status calls)) kept early = not_early_with (nat_le status 209) status _ early
+early_kept input input' out out' (Ok (ended.Status status calls)) kept early = absurd early
 early_kept input input' out out' (Ok ended.Spent) kept early = absurd early
 early_kept input input' out out' (Ok (ended.Stuck kind)) kept early = absurd early
 early_kept input input' out out' (Ok ended.InputFault) kept early = absurd early

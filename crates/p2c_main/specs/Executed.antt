@@ -1,5 +1,5 @@
 -- What running a text does.
-use Rattle.std.specs.Prelude.{◌≡◌, ◌⊎◌, ℕ, ◌≤◌, ◌<◌, Option, None, Some, List, length, if◌then◌else◌, nat_le, Result, Ok, Err}
+use Rattle.std.specs.Prelude.{◌≡◌, ◌⊎◌, ℕ, ◌≤◌, ◌<◌, Option, None, Some, List, length, Result, Ok, Err}
 use Rattle.c_tree.specs.declared.program.CProgram.{CProgram}
 use Rattle.c_grammar.specs.Text.{CText}
 use Rattle.c_meaning.specs.Runs.{CAnswer, Going, End, CRun}
@@ -90,12 +90,8 @@ AsksForText (Some files) words = (steps : ℕ) × (name source : List ℕ) × (c
 
 -- ---- the answer to what the runner says
 
--- a program has no other status, and memory may be wanting at any time
-abbrev pub outcome_with : (status : ℕ) → Outcome
-outcome_with status = if nat_le status 209 then Ended status else OutOfMemory
-
 abbrev pub outcome_of_run : Result e.Ended CTextFault → Outcome
-outcome_of_run (Ok (ended.Status status calls)) = outcome_with status
+outcome_of_run (Ok (ended.Status status calls)) = Ended status
 outcome_of_run (Ok ended.Spent) = Spent
 outcome_of_run (Ok (ended.Stuck kind)) = Stuck kind
 outcome_of_run (Ok ended.InputFault) = ReadFault

@@ -4,7 +4,7 @@ ghost use Rattle.std.specs.Prelude.{◌≡◌, ◌≢◌, ◌≤◌, ◌⊎◌, 
 ghost use Rattle.p2c_outside.specs.Counts.{Rose};
 ghost use Rattle.p2c_outside.specs.Told.{Named, WhereTold};
 ghost use Rattle.p2c_main.specs.Answers.{IsEarly, RunAnswer};
-ghost use Rattle.p2c_main.specs.Executed.{InputFails, MayTake, ReadFails, TakesOnly, outcome_of_run, outcome_with};
+ghost use Rattle.p2c_main.specs.Executed.{InputFails, MayTake, ReadFails, TakesOnly, outcome_of_run};
 
 use crate::outcome::Outcome;
 use crate::reading::{read_whole, refused};
@@ -13,12 +13,6 @@ use c_stepper::Ended;
 use p2c_outside::{Files, Sink, Source};
 use run_core::{LONGEST_INPUT, run_text};
 use std::alloc::Global;
-
-/// The most steps that the runner does.
-const MOST_STEPS: u64 = 1_000_000_000_000_000_000;
-
-/// The greatest status of a program.
-const LAST_STATUS: u8 = 209;
 
 /// Runs the text in the file of this name, for at most so many steps.
 pub fn execute<F: Files, I: Source, O: Sink>(
@@ -47,10 +41,6 @@ pub fn execute<F: Files, I: Source, O: Sink>(
     ensures early { IsEarly result → (input.new ≡ input.old) × (out.new ≡ out.old) }
     ensures same { F.told files.new ≡ F.told files.old }
 {
-    // the words ask for no more steps
-    if steps > MOST_STEPS {
-        return Outcome::OutOfMemory;
-    }
     let bytes = match read_whole(alloc, files, name, LONGEST_INPUT) {
         Ok(bytes) => bytes,
         Err(refusal) => return refused(refusal),
@@ -66,7 +56,6 @@ fn executed<I: Source, O: Sink>(
     out: &mut O,
 ) -> Outcome
     requires short { length bytes.now ≤ LONGEST_INPUT }
-    requires few { steps ≤ MOST_STEPS }
     ensures answer { (told : Option Named) (name : List ℕ) → WhereTold told name (λ b. bytes.now ≡ b) →
         RunAnswer told name steps (I.left input.old) (O.written out.old) (O.written out.new) result }
     ensures there { result ≢ Outcome.Missing }
@@ -87,7 +76,7 @@ fn finished(answer: &Result<Ended, CTextFault>) -> Outcome
     ensures { result ≡ outcome_of_run answer.now }
 {
     match answer {
-        Ok(Ended::Status { status, .. }) => with_status(*status),
+        Ok(Ended::Status { status, .. }) => Outcome::Ended(*status),
         Ok(Ended::Spent) => Outcome::Spent,
         Ok(Ended::Stuck(kind)) => Outcome::Stuck(*kind),
         Ok(Ended::InputFault) => Outcome::ReadFault,
@@ -97,16 +86,5 @@ fn finished(answer: &Result<Ended, CTextFault>) -> Outcome
             kind: *kind,
             line: *line,
         },
-    }
-}
-
-/// The outcome of a status; the meaning has none above 209.
-fn with_status(status: u8) -> Outcome
-    ensures { result ≡ outcome_with status }
-{
-    if status <= LAST_STATUS {
-        Outcome::Ended(status)
-    } else {
-        Outcome::OutOfMemory
     }
 }

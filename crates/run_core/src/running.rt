@@ -1,7 +1,7 @@
 //! Running a text.
 ghost use Rattle.std.specs.Prelude.{◌≡◌, ◌≤◌, IfErr, IfOk, length};
 ghost use Rattle.c_reader.specs.Read.{IsFault};
-ghost use Rattle.c_stepper.specs.Machines.{RunFaults};
+ghost use Rattle.c_stepper.specs.Machines.{RunFaults, HasStatus};
 ghost use Rattle.run_core.specs.Answers.{IsRun};
 
 use c_reader::{CTextFault, LONGEST_INPUT, read};
@@ -19,9 +19,9 @@ pub fn run_text<I: Source, O: Sink>(
     out: &mut O,
 ) -> Result<Ended, CTextFault>
     requires short { length bytes.now ≤ LONGEST_INPUT }
-    requires few { steps ≤ 1000000000000000000 }
     ensures ran { IfOk result (IsRun bytes.now steps (I.left input.old) (I.left input.new) (O.written out.old) (O.written out.new)) }
     ensures faults { IfOk result (RunFaults (I.faults input.old) (I.faults input.new) (O.faults out.old) (O.faults out.new)) }
+    ensures status { IfOk result HasStatus }
     ensures refused { IfErr result (IsFault bytes.now) }
     ensures untouched { IfErr result (λ fault. (input.new ≡ input.old) × (out.new ≡ out.old)) }
 {

@@ -10,7 +10,7 @@ returns-clause-answer g c = λ told name whole.
     let r = c.run_text-answer in
     let old = g.O.Sink.written c.args.out.now in
     subst (λ o. RunAnswer told name c.args.steps (g.I.Source.left c.args.input.now) old (g.O.Sink.written r.new.out) o) (sym c.finished.ensures)
-    (run_answer told name c.args.bytes.now c.args.steps (g.I.Source.left c.args.input.now) (g.I.Source.left r.new.input) old (g.O.Sink.written r.new.out) r.result whole r.ensures.ran r.ensures.refused
+    (run_answer told name c.args.bytes.now c.args.steps (g.I.Source.left c.args.input.now) (g.I.Source.left r.new.input) old (g.O.Sink.written r.new.out) r.result whole r.ensures.ran r.ensures.status r.ensures.refused
     (kept_written c.args.input.now r.new.input c.args.out.now r.new.out g.O.Sink.written r.result r.ensures.untouched))
 
 pub returns-clause-there : goal.returns-clause-there
