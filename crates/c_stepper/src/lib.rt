@@ -13,7 +13,5 @@ mod machine;
 mod names;
 mod runner;
 mod spot;
-#[cfg(test)]
-mod tests;
 
 pub use machine::{Ended, Machine, Stepped, run};

@@ -1,3 +1,5 @@
+ghost use Rattle.std.specs.Prelude.{◌≤◌};
+
 use crate::{LONGEST_INPUT, run_text};
 use c_reader::CTextFault;
 use c_stepper::Ended;
@@ -183,7 +185,7 @@ static ROWS: [(&str, &str, &str); 50] = [
         "",
         " 3 0",
     ),
-    ("goto end;", "", "BadGoto on line 17"),
+    ("goto end;", "", " BadGoto on line 17"),
     (
         "x = getchar(); putchar(x); return INT64_C(0);",
         "q",
@@ -200,7 +202,7 @@ static ROWS: [(&str, &str, &str); 50] = [
         "",
         " 0 0",
     ),
-    ("return INT64_C(0)", "", "Unexpected on line 17"),
+    ("return INT64_C(0)", "", " Unexpected on line 17"),
 ];
 
 #[test]
