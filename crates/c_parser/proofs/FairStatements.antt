@@ -20,7 +20,7 @@ use Rattle.token_parsing.specs.Parser.{Parser, begins}
 use Rattle.token_parsing.proofs.Fair.{At, reads, at_same, fair_then, fair_either, fair_repeat, fair_so, fair_refuse, fair_stop}
 use Rattle.c_parser.specs.Classes.{names, marks, words}
 use Rattle.c_parser.specs.Expressions.{expr}
-use Rattle.c_parser.specs.Statements.{next_argument, some_arguments, listed_arguments, call, indirect, callee, calls, malloc_opening, malloc, get_char, value, call_into, assigned, callee_of, label_of, called, labelled, placed, free, put_char, goto, returned, return_with, no_brace, next_statement, statements, body, test, otherwise, conditional, while_loop, simple, statement_by, statement}
+use Rattle.c_parser.specs.Statements.{next_argument, some_arguments, listed_arguments, call, indirect, callee, calls, malloc_opening, malloc, get_char, value, call_into, assigned, callee_of, label_of, called, labelled, placed, free, put_char, goto, returned, return_with, no_brace, next_statement, statements, body, tested, otherwise, conditional, while_loop, simple, statement_by, statement}
 use Rattle.c_parser.specs.Depth.{expr_depth, place_depth, into_depth, callee_depth, arguments_depth, value_depth, statement_depth, body_depth}
 use Rattle.c_parser.proofs.FairTokens.{FairC, mark_fair, word_fair, name_fair, a_name, a_name_is}
 use Rattle.c_parser.proofs.FairTypes.{type_fair}
@@ -360,8 +360,8 @@ module _ (all : List Token) (formed : AreTokens all) (d : ℕ) (child : Parser T
         mark_fair mark.CloseBrace r at2 (let f = hole (body_of items) is in begins_by at2 f f.more refl) (λ _ r at3. reads items r (at3, is, deep))))
 
     test_fair : (level : ℕ) (front : List Token → List Token) (s : List Token) → level + d ≡ 2401 → At all front s → Begins (front []) → ExprHole level (λ u. front (Sign mark.Open ∷ u))
-        → FairC all (λ a r. At all (λ u. front (Sign mark.Open ∷ spell_expr a (Sign mark.Close ∷ u))) r × IsExpr a × (expr_depth a ≤ d)) (test child s)
-    unfolding test
+        → FairC all (λ a r. At all (λ u. front (Sign mark.Open ∷ spell_expr a (Sign mark.Close ∷ u))) r × IsExpr a × (expr_depth a ≤ d)) (tested child s)
+    unfolding tested
     test_fair level front s left at begun hole =
         mark_fair mark.Open s at begun (λ _ r at1.
         fair_then (good level (λ u. front (Sign mark.Open ∷ u)) r left at1 hole) (λ a r (at2, is, deep).

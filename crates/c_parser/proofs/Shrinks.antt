@@ -14,7 +14,7 @@ use Rattle.c_parser.specs.declared.program.Parts.{Parts}
 use Rattle.c_parser.specs.Classes.{names, words, marks, unaries, expect}
 use Rattle.c_parser.specs.Types.{struct_type, byte_type, void_pointer, base_type, pointer_to, stars, object_type, after_void, result_type, struct_pointer, void_cast, cast_type}
 use Rattle.c_parser.specs.Expressions.{number, word_number, null, member, element, selected, begins_selector, selectors, pointee, variable, base_place, place, read_pointee, address, unary, binary, cast, begins_cast, opened, read_variable, expr_by, expr}
-use Rattle.c_parser.specs.Statements.{next_argument, some_arguments, listed_arguments, call, indirect, callee, calls, malloc_opening, malloc, get_char, value, call_into, assigned, callee_of, label_of, called, labelled, placed, free, put_char, goto, returned, return_with, no_brace, next_statement, statements, body, test, otherwise, conditional, while_loop, simple, statement_by, statement}
+use Rattle.c_parser.specs.Statements.{next_argument, some_arguments, listed_arguments, call, indirect, callee, calls, malloc_opening, malloc, get_char, value, call_into, assigned, callee_of, label_of, called, labelled, placed, free, put_char, goto, returned, return_with, no_brace, next_statement, statements, body, tested, otherwise, conditional, while_loop, simple, statement_by, statement}
 use Rattle.c_parser.specs.Programs as programs
 use Rattle.c_parser.specs.Programs.{array_length, next_member, members, next_type, types_after, types, typedef_of, pointer_name, typedef, next_parameter, parameters_after, parameters, begins_local, next_local, locals, block, no_functions, no_prototypes, no_globals, no_declarations, when, forward, structure, type_definition, global, prototype, function, after_parameters, after_name, after_result, after_struct_name, after_struct, next_part, no_int, no_parts, parts, main, end_of, program}
 
@@ -181,8 +181,8 @@ module _ (child : Parser Token Expr) (h : Shrinks child) where
       (either_shrinks (begins (words word.Return)) (then_shrinks (one_shrinks _) (λ _. then_shrinks returned_shrinks (λ a. then_shrinks (one_shrinks _) (λ _. pure_shrinks _))))
       (then_shrinks (place_shrinks child h) placed_shrinks))))
 
-  pub test_shrinks : Shrinks (test child)
-  unfolding test
+  pub test_shrinks : Shrinks (tested child)
+  unfolding tested
   test_shrinks = then_shrinks (one_shrinks _) (λ _. then_shrinks h (λ a. then_shrinks (one_shrinks _) (λ _. pure_shrinks _)))
 
   module _ (inside : Parser Token Statement) (g : Shrinks inside) where

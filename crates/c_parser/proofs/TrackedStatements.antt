@@ -16,7 +16,7 @@ use Rattle.token_parsing.specs.Parser.{Parser, one_of, begins, rest, either}
 use Rattle.token_parsing.proofs.Tracked.{Shrinks, Short, relaxed, stops_short, short_then, Takes, Along, ended, last, longer, Tracked, too_deep, one_shrinks, pure_shrinks, then_shrinks, either_shrinks, repeat_shrinks, takes_token, takes_then, takes_either, along_split, same_begins, begun_short, short_tracked, other_text, track_first, track_second, track_then, track_pure, Item, Listing, track_list}
 use Rattle.c_parser.specs.Classes.{same_word, same_mark, names, words, marks}
 use Rattle.c_parser.specs.Expressions.{pointee, variable, base_place, place, opened, read_variable, read_pointee, expr_by, expr}
-use Rattle.c_parser.specs.Statements.{next_argument, some_arguments, listed_arguments, call, indirect, callee, after_group, calls, malloc_opening, malloc, get_char, value, call_into, assigned, callee_of, called, placed, free, put_char, goto, returned, return_with, no_brace, next_statement, statements, body, test, otherwise, conditional, while_loop, simple, statement_by, statement}
+use Rattle.c_parser.specs.Statements.{next_argument, some_arguments, listed_arguments, call, indirect, callee, after_group, calls, malloc_opening, malloc, get_char, value, call_into, assigned, callee_of, called, placed, free, put_char, goto, returned, return_with, no_brace, next_statement, statements, body, tested, otherwise, conditional, while_loop, simple, statement_by, statement}
 use Rattle.c_parser.specs.Depth.{expr_depth, place_depth, callee_depth, arguments_depth, value_depth, statement_depth, body_depth}
 use Rattle.c_parser.proofs.Shrinks.{type_shrinks, selectors_shrinks, pointee_shrinks, opened_shrinks, expr_shrinks, next_argument_shrinks, arguments_shrinks, call_shrinks, malloc_shrinks, get_char_shrinks, value_shrinks, call_into_shrinks, placed_shrinks, returned_shrinks, test_shrinks, next_statement_shrinks, statements_shrinks, body_shrinks, otherwise_shrinks, statement_shrinks}
 use Rattle.c_parser.proofs.TrackedTokens.{mark_tracked, word_tracked, name_tracked}
@@ -481,8 +481,8 @@ module _ (n : ℕ) (W : Type 0) (d : ℕ) (child : Parser Token Expr) (shrinks :
         mark_tracked mark.OpenBrace h (λ _. then_shrinks (statements_shrinks child shrinks inside shrinks') (λ _. then_shrinks (one_shrinks _) (λ _. pure_shrinks _))) (λ r h.
         track_then (statements_tracked all is deep rest r h) (λ _. then_shrinks (one_shrinks _) (λ _. pure_shrinks _)) (λ r h. mark_tracked mark.CloseBrace h (λ _. pure_shrinks _) (λ r h. track_pure all h)))
 
-    test_tracked : (a : Expr) → IsExpr a → (W → expr_depth a ≤ d) → (rest s : List Token) → Along n (Sign mark.Open ∷ spell_expr a (Sign mark.Close ∷ rest)) s → Tracked n W a rest (test child s)
-    unfolding test
+    test_tracked : (a : Expr) → IsExpr a → (W → expr_depth a ≤ d) → (rest s : List Token) → Along n (Sign mark.Open ∷ spell_expr a (Sign mark.Close ∷ rest)) s → Tracked n W a rest (tested child s)
+    unfolding tested
     test_tracked a is deep rest s h =
         mark_tracked mark.Open h (λ _. then_shrinks shrinks (λ _. then_shrinks (one_shrinks _) (λ _. pure_shrinks _))) (λ r h.
         track_then (good n W a is deep (Sign mark.Close ∷ rest) r (no_selector_mark rest).0 h) (λ _. then_shrinks (one_shrinks _) (λ _. pure_shrinks _)) (λ r h. mark_tracked mark.Close h (λ _. pure_shrinks _) (λ r h. track_pure a h)))

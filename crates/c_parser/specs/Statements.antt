@@ -133,18 +133,18 @@ unfoldable pub body : Parser Token Statement → Parser Token (List Statement)
 body statement = expect mark.OpenBrace >>= λ _. statements statement >>= λ all. expect mark.CloseBrace >>= λ _. pure all
 
 -- "(" Expr ")"
-unfoldable pub test : Parser Token Expr → Parser Token Expr
-test expr = expect mark.Open >>= λ _. expr >>= λ a. expect mark.Close >>= λ _. pure a
+unfoldable pub tested : Parser Token Expr → Parser Token Expr
+tested expr = expect mark.Open >>= λ _. expr >>= λ a. expect mark.Close >>= λ _. pure a
 
 unfoldable pub otherwise : Parser Token Statement → Expr → List Statement → Parser Token Statement
 otherwise statement a all = expect_word word.Else >>= λ _. body statement >>= λ more. pure (IfElse a (body_of all) (body_of more))
 
 unfoldable pub conditional : Parser Token Expr → Parser Token Statement → Parser Token Statement
-conditional expr statement = expect_word word.If >>= λ _. test expr >>= λ a. body statement >>= λ all.
+conditional expr statement = expect_word word.If >>= λ _. tested expr >>= λ a. body statement >>= λ all.
     either (begins (words word.Else)) (otherwise statement a all) (pure (If a (body_of all)))
 
 unfoldable pub while_loop : Parser Token Expr → Parser Token Statement → Parser Token Statement
-while_loop expr statement = expect_word word.While >>= λ _. test expr >>= λ a. body statement >>= λ all. pure (While a (body_of all))
+while_loop expr statement = expect_word word.While >>= λ _. tested expr >>= λ a. body statement >>= λ all. pure (While a (body_of all))
 
 unfoldable pub simple : Parser Token Expr → Parser Token Statement
 simple expr =

@@ -459,13 +459,13 @@ fn simple<'a>(
 }
 
 /// The test of an `if` or a `while`.
-#[tactic(auto, unfolding(crate::specs::Statements::test))]
+#[tactic(auto, unfolding(crate::specs::Statements::tested))]
 fn test<'a>(
     alloc: Global,
     tokens: &'a [CToken<'a>],
     depth: u32,
 ) -> Result<(CExpr, &'a [CToken<'a>]), ParseError>
-    ensures { Gives (λ x. (x.0, tokens_of x.1.now)) result (spec.test (expr_of depth) (tokens_of tokens.now)) }
+    ensures { Gives (λ x. (x.0, tokens_of x.1.now)) result (spec.tested (expr_of depth) (tokens_of tokens.now)) }
 {
     let rest = expect(tokens, Mark::Open)?;
     let (test, rest) = expr(alloc, rest, depth)?;
