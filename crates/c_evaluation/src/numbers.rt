@@ -61,7 +61,6 @@ fn number_in_block(block: &Block) -> Option<i64>
 }
 
 /// The number of a variable.
-
 fn number_of_variable(scope: &Scope, name: &Name) -> Option<i64>
     requires { HasRoom scope.now }
     ensures { IfSome result (λ z. m.name_value (view_at scope.now) name.now ((view_at scope.now).named name.now) ≡ Got (w.int z)) }
@@ -73,7 +72,6 @@ fn number_of_variable(scope: &Scope, name: &Name) -> Option<i64>
 }
 
 /// The number at a place that is a name.
-
 fn number_at(scope: &Scope, place: &CPlace) -> Option<i64>
     requires { HasRoom scope.now }
     ensures { IfSome result (λ z. m.value (view_at scope.now) (t.Read place.now) ≡ Got (w.int z)) }
@@ -108,30 +106,21 @@ fn one_if(holds: bool) -> Option<i64>
 fn sum(x: i64, y: i64) -> Option<i64>
     ensures { (ds : List CDeclaration) → IfSome result (λ z. w.joined ds CBinary.Add (w.int x) (Got (w.int y)) ≡ Got (w.int z)) }
 {
-    match x.checked_add(y) {
-        Some(z) => Some(z),
-        None => None,
-    }
+    x.checked_add(y)
 }
 
 #[tactic(auto, using(crate::proofs::Found::subtract))]
 fn difference(x: i64, y: i64) -> Option<i64>
     ensures { (ds : List CDeclaration) → IfSome result (λ z. w.joined ds CBinary.Subtract (w.int x) (Got (w.int y)) ≡ Got (w.int z)) }
 {
-    match x.checked_sub(y) {
-        Some(z) => Some(z),
-        None => None,
-    }
+    x.checked_sub(y)
 }
 
 #[tactic(auto, using(crate::proofs::Found::multiply))]
 fn product(x: i64, y: i64) -> Option<i64>
     ensures { (ds : List CDeclaration) → IfSome result (λ z. w.joined ds CBinary.Multiply (w.int x) (Got (w.int y)) ≡ Got (w.int z)) }
 {
-    match x.checked_mul(y) {
-        Some(z) => Some(z),
-        None => None,
-    }
+    x.checked_mul(y)
 }
 
 #[tactic(auto, unfolding(c_meaning::specs::Values::cell_eq))]

@@ -6,8 +6,6 @@
 
 mod places;
 mod tables;
-#[cfg(test)]
-mod tests;
 
 pub use places::Places;
-pub use tables::{Tables, places_of_variables};
+pub use tables::Tables;

@@ -88,7 +88,7 @@ fn add_typedef(
 }
 
 /// The places of variables.
-pub fn places_of_variables(alloc: Global, variables: &[CVariable]) -> Result<Places, AllocError>
+fn places_of_variables(alloc: Global, variables: &[CVariable]) -> Result<Places, AllocError>
     ensures { IfOk result (λ places. Holds places (map variable_name variables.now)) }
 {
     let mut places = Places::new(alloc);

@@ -1,5 +1,5 @@
 -- Types, as contracts see them.
-use Rattle.std.specs.Prelude.{ℕ, ◌+◌, List}
+use Rattle.std.specs.Prelude.{ℕ, List}
 
 -- `int64_t`, `uint64_t`, `unsigned char`, `struct n`, the typedef name n, `void *`, and a pointer to another of these
 pub data ObjectType : Type 0 where
@@ -10,8 +10,3 @@ pub data ObjectType : Type 0 where
   Named : (name : List ℕ) → ObjectType
   VoidPointer : ObjectType
   Pointer : (of : ObjectType) → ObjectType
-
--- how many pointers are around it
-abbrev pub type_size : ObjectType → ℕ
-type_size (Pointer of) = type_size of + 1
-type_size _ = 0
