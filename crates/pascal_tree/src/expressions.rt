@@ -42,7 +42,7 @@ pub enum Multiplying {
 #[derive(Debug, Drop)]
 pub struct Expr {
     pub left: Simple,
-    pub right: Option<(Relation, Simple)>,
+    pub right: Option<Boxed<(Relation, Simple)>>,
     pub span: Span,
 }
 
@@ -121,7 +121,7 @@ pub enum Factor {
 #[derive(Debug, Drop)]
 pub struct Elem {
     pub first: Expr,
-    pub last: Option<Expr>,
+    pub last: Option<Boxed<Expr>>,
     pub span: Span,
 }
 
@@ -161,8 +161,8 @@ pub struct Args {
 pub enum Arg {
     Value {
         value: Expr,
-        width: Option<Expr>,
-        decimals: Option<Expr>,
+        width: Option<Boxed<Expr>>,
+        decimals: Option<Boxed<Expr>>,
         span: Span,
     },
     Program(Span),

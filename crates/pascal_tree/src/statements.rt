@@ -28,7 +28,7 @@ pub enum Plain {
     Nothing(Span),
     Assign {
         target: Place,
-        value: Expr,
+        value: Boxed<Expr>,
         span: Span,
     },
     Call {
@@ -45,13 +45,13 @@ pub enum Plain {
         span: Span,
     },
     If {
-        condition: Expr,
+        condition: Boxed<Expr>,
         yes: Boxed<Stmt>,
         no: Option<Boxed<Stmt>>,
         span: Span,
     },
     Case {
-        selector: Expr,
+        selector: Boxed<Expr>,
         arms: Arms,
         /// Whether a semicolon stands after the last arm.
         closed: bool,
@@ -59,20 +59,20 @@ pub enum Plain {
         span: Span,
     },
     While {
-        condition: Expr,
+        condition: Boxed<Expr>,
         body: Boxed<Stmt>,
         span: Span,
     },
     Repeat {
         body: Stmts,
-        until: Expr,
+        until: Boxed<Expr>,
         span: Span,
     },
     For {
         variable: Identifier,
-        first: Expr,
+        first: Boxed<Expr>,
         direction: Direction,
-        last: Expr,
+        last: Boxed<Expr>,
         body: Boxed<Stmt>,
         span: Span,
     },

@@ -8,6 +8,7 @@ use crate::{
     AddedTerm, Arg, Args, Elem, Expr, Factor, MultipliedFactor, Place, Relation, Selector, Simple,
     Term,
 };
+use tree_lists::Boxed;
 
 #[tactic(auto, using(crate::proofs::ExpressionNodes::expr_open))]
 #[cycle(expressions)]
@@ -20,11 +21,14 @@ pub(super) fn expr_height(expr: &Expr) -> u32
 }
 
 #[cycle(expressions)]
-fn right_height(right: &Option<(Relation, Simple)>) -> u32
+fn right_height(right: &Option<Boxed<(Relation, Simple)>>) -> u32
     ensures { result ≡ capped (spec.right_height right.now) }
 {
     match right {
-        Some((_, simple)) => simple_height(simple),
+        Some(compared) => {
+            let (_, simple) = compared.get();
+            simple_height(simple)
+        }
         None => 0,
     }
 }
@@ -110,11 +114,11 @@ fn elem_height(elem: &Elem) -> u32
 }
 
 #[cycle(expressions)]
-fn last_height(last: &Option<Expr>) -> u32
+fn last_height(last: &Option<Boxed<Expr>>) -> u32
     ensures { result ≡ capped (spec.last_height last.now) }
 {
     match last {
-        Some(expr) => expr_height(expr),
+        Some(expr) => expr_height(expr.get()),
         None => 0,
     }
 }
@@ -190,10 +194,7 @@ fn arg_height(arg: &Arg) -> u32
             width,
             decimals,
             ..
-        } => {
-            let given = last_height(width).max(last_height(decimals));
-            expr_height(value).max(given)
-        }
+        } => expr_height(value).max(last_height(width).max(last_height(decimals))),
         Arg::Program(_) => 0,
     }
 }

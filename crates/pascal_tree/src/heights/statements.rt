@@ -43,7 +43,7 @@ fn plain_height(plain: &Plain) -> u32
 {
     match plain {
         Plain::Nothing(_) | Plain::Goto { .. } => 0,
-        Plain::Assign { target, value, .. } => place_height(target).max(expr_height(value)),
+        Plain::Assign { target, value, .. } => place_height(target).max(expr_height(value.get())),
         Plain::Call { args, .. } => given_height(args),
         Plain::Compound { body, .. } => stmts_height(body.as_slice()),
         Plain::If {
@@ -51,25 +51,25 @@ fn plain_height(plain: &Plain) -> u32
             yes,
             no,
             ..
-        } => expr_height(condition).max(stmt_height(yes.get()).max(else_height(no))),
+        } => expr_height(condition.get()).max(stmt_height(yes.get()).max(else_height(no))),
         Plain::Case {
             selector,
             arms,
             rest,
             ..
-        } => expr_height(selector).max(arm_heights(arms.as_slice()).max(rest_part_height(rest))),
+        } => expr_height(selector.get()).max(arm_heights(arms.as_slice()).max(rest_part_height(rest))),
         Plain::While {
             condition,
             body,
             ..
-        } => expr_height(condition).max(stmt_height(body.get())),
-        Plain::Repeat { body, until, .. } => stmts_height(body.as_slice()).max(expr_height(until)),
+        } => expr_height(condition.get()).max(stmt_height(body.get())),
+        Plain::Repeat { body, until, .. } => stmts_height(body.as_slice()).max(expr_height(until.get())),
         Plain::For {
             first,
             last,
             body,
             ..
-        } => expr_height(first).max(expr_height(last).max(stmt_height(body.get()))),
+        } => expr_height(first.get()).max(expr_height(last.get()).max(stmt_height(body.get()))),
         Plain::With { places, body, .. } => {
             place_heights(places.as_slice()).max(stmt_height(body.get()))
         }
