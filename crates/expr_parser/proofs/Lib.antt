@@ -26,3 +26,4 @@ pub mod SoundFactors
 pub mod Clauses
 pub mod Answered
 pub mod Examples
+pub mod ConstantShrinks

@@ -11,3 +11,7 @@ pub mod Expressions
 pub mod Text
 pub mod Parsed
 pub mod Laws
+pub mod Dialects
+pub mod Constants
+pub mod ConstantNodes
+pub mod Semicolons

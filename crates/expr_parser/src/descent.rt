@@ -31,13 +31,13 @@ fn optional_after<'t>(
     tokens: &'t [Token],
     depth: u32,
     mark: Symbol,
-) -> Result<(Option<Expr>, &'t [Token]), ParseError>
+) -> Result<(Option<Boxed<Expr>>, &'t [Token]), ParseError>
     ensures { Gives (λ x. (x.0, seen source.now.bytes.now x.1.now)) result (places.optional_after mark (expressions.expr source.now.dialect source.now.end depth) (seen source.now.bytes.now tokens.now)) }
 {
     if is(source, tokens, mark) {
         let rest = expect(source, tokens, mark)?;
         let (expr, rest) = expr(source, rest, depth)?;
-        return Ok((Some(expr), rest));
+        return Ok((Some(Boxed::new(source.alloc, expr)?), rest));
     }
     Ok((None, tokens))
 }
@@ -699,13 +699,13 @@ fn compared<'t>(
     source: &Source<'_>,
     tokens: &'t [Token],
     depth: u32,
-) -> Result<(Option<(Relation, Simple)>, &'t [Token]), ParseError>
+) -> Result<(Option<Boxed<(Relation, Simple)>>, &'t [Token]), ParseError>
     ensures { Gives (λ x. (x.0, seen source.now.bytes.now x.1.now)) result (expressions.compared source.now.end (expressions.factor source.now.dialect source.now.end depth) (seen source.now.bytes.now tokens.now)) }
 {
     if is_relation(source, tokens) {
         let (relation, rest) = relation(source, tokens)?;
         let (simple, rest) = simple(source, rest, depth)?;
-        return Ok((Some((relation, simple)), rest));
+        return Ok((Some(Boxed::new(source.alloc, (relation, simple))?), rest));
     }
     Ok((None, tokens))
 }

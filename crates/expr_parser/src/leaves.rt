@@ -18,7 +18,7 @@ use token_parsing::refusal::{ParseError, unexpected};
 
 /// The value of a number, and the tokens after it.
 #[tactic(auto, unfolding(token_parsing::specs::Parser::one_of))]
-fn value<'t>(source: &Source<'_>, tokens: &'t [Token]) -> Result<(i64, &'t [Token]), ParseError>
+pub fn value<'t>(source: &Source<'_>, tokens: &'t [Token]) -> Result<(i64, &'t [Token]), ParseError>
     ensures { Gives (λ x. (x.0, seen source.now.bytes.now x.1.now)) result (one_of classes.numbers (seen source.now.bytes.now tokens.now)) }
 {
     match tokens {
@@ -35,7 +35,7 @@ fn value<'t>(source: &Source<'_>, tokens: &'t [Token]) -> Result<(i64, &'t [Toke
 
 /// The bytes that a text stands for, and the tokens after it.
 #[tactic(auto, unfolding(token_parsing::specs::Parser::one_of))]
-fn bytes<'t>(
+pub fn bytes<'t>(
     source: &Source<'_>,
     tokens: &'t [Token],
 ) -> Result<(TextBytes, &'t [Token]), ParseError>

@@ -10,11 +10,12 @@
 //! before a refused one; `proofs/Followed*` that the tokens of each tree are followed to their end.
 #![tactic(auto)]
 
+pub mod constants;
 pub mod descent;
 mod fault;
 pub mod laws;
-mod leaves;
-mod operators;
+pub mod leaves;
+pub mod operators;
 pub mod parsing;
 pub mod source;
 pub mod step;

@@ -86,7 +86,7 @@ fn multiplying_of_word(word: Word) -> Option<Multiplying>
 }
 
 /// The tokens after the next.
-fn after<'t>(source: &Source<'_>, tokens: &'t [Token]) -> &'t [Token]
+pub fn after<'t>(source: &Source<'_>, tokens: &'t [Token]) -> &'t [Token]
     ensures { seen source.now.bytes.now result.now ≡ rest (seen source.now.bytes.now tokens.now) }
 {
     match tokens {
