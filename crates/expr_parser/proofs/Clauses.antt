@@ -19,12 +19,12 @@ use Rattle.expr_parser.proofs.SoundFactors.{expr_sound}
 use Rattle.expr_parser.proofs.Longest as longest
 use Rattle.expr_parser.proofs.Longest.{first_spot, first_hole}
 
-sound : (d : Dialect) (end : Span) (levels outer : ℕ) (from : List Placed) → AreTokens d (plain from)
+pub sound : (d : Dialect) (end : Span) (levels outer : ℕ) (from : List Placed) → AreTokens d (plain from)
     → Answer d write_expr (formed_expr d) end outer levels from (Reads d write_expr (formed_expr d) end outer levels from write_expr (formed_expr d) levels from) (expr d end levels from)
 sound d end levels outer from known =
     expr_sound d write_expr (formed_expr d) end outer levels from known levels whole from (first_spot d write_expr (formed_expr d) end outer levels from) (first_hole d write_expr (formed_expr d)) (omega arith)
 
-follows : (d : Dialect) (end : Span) (levels : ℕ) (n : Until) (W : Type 0) (e : Expr) → Part W levels (write_expr e) (formed_expr d e) → (s : List Placed) → Along n (spell (write_expr e) []) s → Followed n W [] (expr d end levels s)
+pub follows : (d : Dialect) (end : Span) (levels : ℕ) (n : Until) (W : Type 0) (e : Expr) → Part W levels (write_expr e) (formed_expr d e) → (s : List Placed) → Along n (spell (write_expr e) []) s → Followed n W [] (expr d end levels s)
 follows d end levels n W e part s h = expr_followed n W d end levels e part [] nothing_ends s h
 
 pub read_is_longest : ReadIsLongest

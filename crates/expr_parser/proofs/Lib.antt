@@ -24,8 +24,8 @@ pub mod SoundTerms
 pub mod SoundPlaces
 pub mod SoundFactors
 pub mod Longest
-pub mod Clauses
 pub mod Answered
+pub mod Clauses
 pub mod Examples
 pub mod ConstantShrinks
 pub mod FollowedConstants
