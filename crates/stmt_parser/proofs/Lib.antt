@@ -13,3 +13,4 @@ pub mod FollowedLabels
 pub mod FollowedLevels
 pub mod SoundRows
 pub mod SoundStatements
+pub mod SoundSimple
