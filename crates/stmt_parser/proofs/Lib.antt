@@ -14,3 +14,4 @@ pub mod FollowedLevels
 pub mod SoundRows
 pub mod SoundStatements
 pub mod SoundSimple
+pub mod SoundLoops
