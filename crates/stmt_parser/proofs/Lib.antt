@@ -15,3 +15,6 @@ pub mod SoundRows
 pub mod SoundStatements
 pub mod SoundSimple
 pub mod SoundLoops
+pub mod SoundCases
+pub mod SoundLevels
+pub mod Clauses

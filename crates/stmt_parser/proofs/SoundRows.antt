@@ -58,6 +58,15 @@ module _ (d : Dialect) {C : Type 0} (layout : C → Layout) (form : C → Bool) 
     pub before_else : else_next r ≡ true → IsTrue (formed x true)
     pub fits : height_of (write x) ≤ k
 
+  -- an item that was read, by its parts
+  pub one_as : {s r : List Placed} {x : A} {l : Layout} {b : Formed} → write x ≡ l → ((follows : Bool) → formed x follows ≡ b follows) → IsWritten end l s r → IsTrue (alone b) → (else_next r ≡ true → IsTrue (b true)) → height_of l ≤ k → ReadsOne s x r
+  one_as {s} {r} e f w t u h = record {
+    written = subst (λ l. IsWritten end l s r) (sym e) w;
+    formed_alone = f false ∙ t;
+    before_else = λ next. f true ∙ u next;
+    fits = subst (λ l. height_of l ≤ k) (sym e) h;
+  }
+
   -- a parser of such items with k levels left
   abbrev pub GoodOne : Parser Placed A → Type 0
   GoodOne p = (o : Opening) (s : List Placed) → Spot d layout form end outer levels tokens o s → Hole d layout form write (λ x. alone (formed x)) o → o.depth + k ≡ levels → Answer d layout form end outer levels tokens (ReadsOne s) (p s)

@@ -33,11 +33,11 @@ use Rattle.stmt_parser.specs.Statements.{between, next_stmt, more_stmts, stmts, 
 use Rattle.stmt_parser.proofs.WrittenStatements.{write_else, write_stmt_of, write_nothing_of, write_compound_of, write_if_of, write_while_of, write_repeat_of}
 use Rattle.stmt_parser.proofs.FormedStatements.{formed_else, formed_stmt_of, formed_nothing_of, formed_compound_of, formed_if_of, formed_while_of, formed_repeat_of}
 use Rattle.expr_parser.proofs.KnownTokens.{do_known, then_known, end_known, until_known}
-use Rattle.stmt_parser.proofs.SoundRows.{else_next, no_else, ReadsOne, GoodOne, ReadsRows, rows_sound}
+use Rattle.stmt_parser.proofs.SoundRows.{else_next, ReadsOne, one_as, GoodOne, ReadsRows, rows_sound}
 
 -- ---- the empty statement, which may stand where one is wanted
 
-abbrev no_span : Span
+abbrev pub no_span : Span
 no_span = record { file = 0; start = 0; end = 0; line = 0 }
 
 abbrev pub empty : Stmt
@@ -100,12 +100,7 @@ module _ (d : Dialect) {C : Type 0} (layout : C → Layout) (form : C → Bool) 
   -- what was read, by its parts: it is formed alone, and before an `else` where one is next
   pub plain_as : {k : ℕ} {s r : List Placed} {p : Plain} {l : Layout} {b : Formed} → write_plain d p ≡ l → ((follows : Bool) → formed_plain d p follows ≡ b follows) → IsWritten end l s r → IsTrue (alone b) → (else_next r ≡ true → IsTrue (b true))
       → height_of l ≤ k → ReadsOne d layout form end outer levels tokens known (write_plain d) (formed_plain d) k s p r
-  plain_as {k} {s} {r} e f w t u h = record {
-    written = subst (λ l. IsWritten end l s r) (sym e) w;
-    formed_alone = f false ∙ t;
-    before_else = λ next. f true ∙ u next;
-    fits = subst (λ l. height_of l ≤ k) (sym e) h;
-  }
+  plain_as {k} e f w t u h = one_as d layout form end outer levels tokens known (write_plain d) (formed_plain d) k e f w t u h
 
   module _ (k : ℕ) where
     abbrev PlainReads : List Placed → Plain → List Placed → Type 0
@@ -161,7 +156,7 @@ module _ (d : Dialect) {C : Type 0} (layout : C → Layout) (form : C → Bool) 
         abbrev inside : Opening → Opening
         inside o = within o (in_spanned end)
 
-        compound_sound : (o : Opening) (s : List Placed) → SpotT o s → PlainHole o → o.depth + k ≡ levels → begins (words word_.KwBegin) s ≡ true → AnswerT (PlainReads s) (compound end inner s)
+        pub compound_sound : (o : Opening) (s : List Placed) → SpotT o s → PlainHole o → o.depth + k ≡ levels → begins (words word_.KwBegin) s ≡ true → AnswerT (PlainReads s) (compound end inner s)
         unfolding compound
         compound_sound o s spot hole deep test = answer_word d layout form end outer levels tokens word_.KwBegin s test (λ _ r1 w1.
             let opened = within (inside o) (behind (word word_.KwBegin)) in
@@ -198,7 +193,7 @@ module _ (d : Dialect) {C : Type 0} (layout : C → Layout) (form : C → Bool) 
             reads (Some x) r2 (record { written = written_join end (word word_.KwElse) (write_stmt d x) s r r2 w h.written; formed_alone = h.formed_alone; before_else = h.before_else; given = test; no_other = λ e. absurd (true≢false e); fits = fits }))))
             (λ none. reads None s (record { written = refl; formed_alone = refl; before_else = λ e. refl; given = none; no_other = λ e. none; fits = omega arith }))
 
-        conditional_sound : (o : Opening) (s : List Placed) → SpotT o s → PlainHole o → o.depth + k ≡ levels → begins (words word_.KwIf) s ≡ true → AnswerT (PlainReads s) (conditional end child inner s)
+        pub conditional_sound : (o : Opening) (s : List Placed) → SpotT o s → PlainHole o → o.depth + k ≡ levels → begins (words word_.KwIf) s ≡ true → AnswerT (PlainReads s) (conditional end child inner s)
         unfolding conditional
         conditional_sound o s spot hole deep test =
             let filled : (c : Expr) (a : Stmt) → IsTrue (formed_expr d c) → IsTrue (alone (formed_stmt d a)) → Filled layout form (o.plug (spanned end (word word_.KwIf & write_expr c & word word_.KwThen & write_stmt d a & Done))) =
@@ -224,7 +219,7 @@ module _ (d : Dialect) {C : Type 0} (layout : C → Layout) (form : C → Bool) 
             (λ next. and_in (formed_expr d c) _ b.formed (branches_before d a x r2 r3 h.before_else g.given g.before_else g.no_other next))
             (omega (arith, height_join e (word word_.KwThen & t & z), height_join t z, f1, f2, f3))))))
 
-        while_sound : (o : Opening) (s : List Placed) → SpotT o s → PlainHole o → o.depth + k ≡ levels → begins (words word_.KwWhile) s ≡ true → AnswerT (PlainReads s) (while_loop end child inner s)
+        pub while_sound : (o : Opening) (s : List Placed) → SpotT o s → PlainHole o → o.depth + k ≡ levels → begins (words word_.KwWhile) s ≡ true → AnswerT (PlainReads s) (while_loop end child inner s)
         unfolding while_loop
         while_sound o s spot hole deep test =
             let filled : (c : Expr) (a : Stmt) → IsTrue (formed_expr d c) → IsTrue (alone (formed_stmt d a)) → Filled layout form (o.plug (spanned end (word word_.KwWhile & write_expr c & word word_.KwDo & write_stmt d a))) =
