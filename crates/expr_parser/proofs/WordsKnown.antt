@@ -1,19 +1,15 @@
 -- Each word symbol that a text has is one of its dialect.
-use Rattle.std.proofs.Common.{◌≡◌, ℕ, zero, suc, ◌+◌, ◌<◌, Bool, true, false, ◌&&◌, if◌then◌else◌, ◌==◌, List, [], ◌∷◌, ◌++◌, length, take, drop, map, Option, Some, None, refl, sym, ap, subst, ◌∙◌, arith}
-use Rattle.std.specs.Prelude.{cond, find, fold, slice_get, slice_set, slice_index_or}
+use Rattle.std.proofs.Common.{◌≡◌, ℕ, zero, suc, ◌+◌, ◌<◌, Bool, true, false, ◌&&◌, if◌then◌else◌, ◌==◌, List, [], ◌∷◌, ◌++◌, length, take, Option, Some, None, refl, sym, ap, subst, ◌∙◌, arith}
+use Rattle.std.specs.Prelude.{cond, find, fold, slice_set, slice_index_or}
 use Rattle.std.specs.Str.{bytes_eq, str_to_ascii_lowercase}
 use Rattle.std.specs.Char.{to_ascii_lowercase}
-use Rattle.std.specs.List.{AllByRecursion, Contains}
+use Rattle.std.specs.List.{AllByRecursion}
 use Rattle.p2c_text.specs.declared.dialect.Dialect.{Dialect}
-use Rattle.p2c_text.specs.declared.dialect.Dialect.TheVariants as dialect
 use Rattle.p2c_text.specs.declared.place.Span.{Span}
-use Rattle.dialect_lexer.specs.Dialects.{is_hp}
 use Rattle.dialect_lexer.specs.Bytes.{start_of}
 use Rattle.dialect_lexer.specs.Words.{word_bytes, is_word_in, words_with, word_of}
 use Rattle.dialect_lexer.specs.Forms.{piece_where, named, as_piece, symbol, parenthesis, form_by, form}
-use Rattle.dialect_lexer.specs.Patterns.{IsPiece}
-use Rattle.dialect_lexer.specs.Tokens.{Placed as CutPiece, placed, Cut, nothing, piece, span_of, is_touched, with_token, with_part_after, with_piece, with_placed}
-use Rattle.dialect_lexer.specs.FileTokens.{FileTokens}
+use Rattle.dialect_lexer.specs.Tokens.{Placed as CutPiece, Cut, nothing, piece, span_of, is_touched, with_part_after, with_piece, with_placed}
 use Rattle.dialect_lexer.specs.declared.bytes.Start.{Start}
 use Rattle.dialect_lexer.specs.declared.bytes.Start.TheVariants as start
 use Rattle.dialect_lexer.specs.declared.piece.PieceKind.{PieceKind}
@@ -22,9 +18,8 @@ use Rattle.dialect_lexer.specs.declared.token.TokenKind.{TokenKind}
 use Rattle.dialect_lexer.specs.declared.token.TokenKind.TheVariants as kind
 use Rattle.dialect_lexer.specs.declared.token.Token.{Token as LexedToken}
 use Rattle.dialect_lexer.specs.declared.token.Word.{Word as WordSymbol}
-use Rattle.dialect_lexer.specs.declared.token.Word.TheVariants as word
 use Rattle.dialect_lexer.specs.declared.token.Symbol.{Symbol as SpecialSymbol}
-use Rattle.expr_parser.specs.Tokens.{Token, Word, token_of, spelling_of, seen, plain}
+use Rattle.expr_parser.specs.Tokens.{Word, token_of, spelling_of, seen, plain}
 use Rattle.expr_parser.specs.Grammar.{IsToken}
 
 -- ---- pieces

@@ -1,5 +1,5 @@
 -- The statement `case` that is read.
-use Rattle.std.proofs.Common.{◌≡◌, ℕ, ◌+◌, ◌≤◌, max, pos, Bool, true, false, ◌&&◌, not, List, [], ◌∷◌, map, Option, Some, None, refl, sym, ap, subst, ◌∙◌, arith}
+use Rattle.std.proofs.Common.{◌≡◌, ℕ, ◌+◌, ◌≤◌, pos, Bool, true, false, ◌&&◌, not, List, [], ◌∷◌, map, Option, Some, None, refl, sym, ap, subst, ◌∙◌, arith}
 use Rattle.std.specs.Prelude.{IsTrue}
 use Rattle.p2c_text.specs.declared.dialect.Dialect.{Dialect}
 use Rattle.p2c_text.specs.declared.dialect.Dialect.TheVariants as dialect
@@ -15,8 +15,8 @@ use Rattle.pascal_tree.specs.declared.statements.Plain.{Plain}
 use Rattle.pascal_tree.specs.declared.statements.Plain.TheVariants as plain_
 use Rattle.pascal_tree.specs.declared.statements.Rest.{Rest}
 use Rattle.pascal_tree.specs.declared.statements.Stmt.{Stmt}
-use Rattle.token_parsing.specs.Parser.{Outcome, Parser, and_then, begins, rest}
-use Rattle.token_parsing.proofs.Fair.{reads, fair_then, fair_either, fair_so}
+use Rattle.token_parsing.specs.Parser.{Outcome, Parser, begins, rest}
+use Rattle.token_parsing.proofs.Fair.{reads, fair_then, fair_either}
 use Rattle.expr_parser.specs.Tokens.{Placed, plain}
 use Rattle.expr_parser.specs.Spans.{span_between}
 use Rattle.expr_parser.specs.Layout.{Layout, Done, ◌&◌, word, symbol, spanned, with_commas, tokens_of, height_of, IsWritten}
@@ -40,7 +40,7 @@ use Rattle.stmt_parser.specs.Grammar.{Formed, alone, some_alone, some_up_to, cas
 use Rattle.stmt_parser.specs.Cases.{arm_of, arm, next_arm, begins_next_arm, more_arms, arms, optional_semicolon, rest_of, rest_part, begins_rest, optional_rest, case_of}
 use Rattle.stmt_parser.proofs.WrittenStatements.{write_rest_part, write_arm_of, write_rest_of, write_case_of}
 use Rattle.stmt_parser.proofs.FormedStatements.{formed_rest_part, formed_arm_of, formed_rest_of, formed_case_of}
-use Rattle.stmt_parser.proofs.SoundRows.{else_next, ReadsOne, one_as, GoodOne, ReadsRows, rows_sound}
+use Rattle.stmt_parser.proofs.SoundRows.{else_next, ReadsOne, one_as, GoodOne, rows_sound}
 use Rattle.stmt_parser.proofs.SoundStatements.{no_span, empty, empty_written, empty_formed, empty_known, StmtGood, answer_wanted, plain_as, between_sound, stmts_sound}
 
 -- ---- an arm that may stand where one is wanted

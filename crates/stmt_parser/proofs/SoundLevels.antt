@@ -1,5 +1,5 @@
 -- Statements that are read, within so many levels.
-use Rattle.std.proofs.Common.{◌≡◌, ℕ, zero, suc, ◌+◌, ◌≤◌, max, Bool, true, false, ◌&&◌, List, [], ◌∷◌, length, Option, Some, None, refl, sym, ap, subst, ◌∙◌, arith}
+use Rattle.std.proofs.Common.{◌≡◌, ℕ, zero, suc, ◌+◌, Bool, true, false, List, [], length, Option, Some, None, refl, sym, ap, subst, ◌∙◌, arith}
 use Rattle.std.specs.Prelude.{IsTrue}
 use Rattle.std.specs.List.{Contains}
 use Rattle.p2c_text.specs.declared.dialect.Dialect.{Dialect}
@@ -11,11 +11,11 @@ use Rattle.pascal_tree.specs.declared.expressions.Expr.{Expr}
 use Rattle.pascal_tree.specs.declared.statements.Plain.{Plain}
 use Rattle.pascal_tree.specs.declared.statements.Plain.TheVariants as plain_
 use Rattle.pascal_tree.specs.declared.statements.Stmt.{Stmt}
-use Rattle.token_parsing.specs.Parser.{Outcome, Parser, and_then, begins}
+use Rattle.token_parsing.specs.Parser.{Outcome, Parser, begins}
 use Rattle.token_parsing.proofs.Fair.{reads, fair_then, fair_either}
 use Rattle.expr_parser.specs.Tokens.{Placed, plain}
 use Rattle.expr_parser.specs.Spans.{span_between}
-use Rattle.expr_parser.specs.Layout.{Layout, Done, ◌&◌, symbol, spanned, counted, tokens_of, height_of, levels_of, IsWritten}
+use Rattle.expr_parser.specs.Layout.{Layout, ◌&◌, symbol, spanned, counted, tokens_of, levels_of, IsWritten}
 use Rattle.expr_parser.specs.Writing.{write_expr}
 use Rattle.expr_parser.specs.Grammar.{AreTokens, formed_expr}
 use Rattle.expr_parser.specs.Expressions.{expr}
@@ -36,7 +36,7 @@ use Rattle.stmt_parser.specs.Statements.{stmt_of}
 use Rattle.stmt_parser.specs.Levels.{structured, plain_by, stmt_by, stmt}
 use Rattle.stmt_parser.proofs.WrittenStatements.{write_stmt_of, write_nothing_of}
 use Rattle.stmt_parser.proofs.FormedStatements.{formed_stmt_of, formed_nothing_of}
-use Rattle.stmt_parser.proofs.SoundRows.{ReadsOne, one_as, GoodOne}
+use Rattle.stmt_parser.proofs.SoundRows.{ReadsOne, one_as}
 use Rattle.stmt_parser.proofs.SoundStatements.{no_span, empty, empty_written, empty_formed, empty_known, StmtGood, nothing_sound, compound_sound, conditional_sound, while_sound}
 use Rattle.stmt_parser.proofs.SoundSimple.{goto_sound, named_sound}
 use Rattle.stmt_parser.proofs.SoundLoops.{repeat_sound, for_sound, with_sound, try_sound}

@@ -1,5 +1,5 @@
 -- The statements `repeat`, `for`, `with` and `try` that are read.
-use Rattle.std.proofs.Common.{◌≡◌, ℕ, ◌+◌, ◌≤◌, max, Bool, true, false, ◌&&◌, List, [], ◌∷◌, map, Option, Some, None, refl, sym, ap, subst, ◌∙◌, arith}
+use Rattle.std.proofs.Common.{◌≡◌, ℕ, ◌+◌, ◌≤◌, Bool, true, false, ◌&&◌, List, [], ◌∷◌, map, Some, None, refl, sym, ap, subst, ◌∙◌, arith}
 use Rattle.std.specs.Prelude.{IsTrue}
 use Rattle.p2c_text.specs.declared.dialect.Dialect.{Dialect}
 use Rattle.p2c_text.specs.declared.dialect.Dialect.TheVariants as dialect
@@ -7,7 +7,6 @@ use Rattle.p2c_text.specs.declared.place.Span.{Span}
 use Rattle.dialect_lexer.specs.Dialects.{is_hp}
 use Rattle.dialect_lexer.specs.declared.token.Word.{Word as WordSymbol}
 use Rattle.dialect_lexer.specs.declared.token.Word.TheVariants as word_
-use Rattle.dialect_lexer.specs.declared.token.Symbol.{Symbol as SpecialSymbol}
 use Rattle.dialect_lexer.specs.declared.token.Symbol.TheVariants as mark
 use Rattle.pascal_tree.specs.declared.names.Identifier.{Identifier}
 use Rattle.pascal_tree.specs.declared.expressions.Expr.{Expr}
@@ -17,15 +16,15 @@ use Rattle.pascal_tree.specs.declared.statements.Direction.TheVariants.{Up, Down
 use Rattle.pascal_tree.specs.declared.statements.Plain.{Plain}
 use Rattle.pascal_tree.specs.declared.statements.Plain.TheVariants as plain_
 use Rattle.pascal_tree.specs.declared.statements.Stmt.{Stmt}
-use Rattle.token_parsing.specs.Parser.{Outcome, Parser, and_then, begins}
-use Rattle.token_parsing.proofs.Fair.{reads, fair_then, fair_either, fair_so}
+use Rattle.token_parsing.specs.Parser.{Outcome, Parser, begins}
+use Rattle.token_parsing.proofs.Fair.{reads, fair_then}
 use Rattle.expr_parser.specs.Tokens.{Token, Placed, plain, Name, Number, Text, Word, Symbol}
 use Rattle.expr_parser.specs.Spans.{span_between}
-use Rattle.expr_parser.specs.Layout.{Layout, Done, ◌&◌, word, symbol, spanned, with_commas, tokens_of, height_of, IsWritten}
+use Rattle.expr_parser.specs.Layout.{Layout, ◌&◌, word, symbol, spanned, with_commas, tokens_of, height_of, IsWritten}
 use Rattle.expr_parser.specs.Semicolons.{with_semicolons}
 use Rattle.expr_parser.specs.Writing.{identifier, write_expr, write_place}
 use Rattle.expr_parser.specs.Grammar.{IsToken, AreTokens, some_all, formed_expr, formed_place}
-use Rattle.expr_parser.specs.Classes.{operator_of, identifiers, words, symbols}
+use Rattle.expr_parser.specs.Classes.{operator_of, identifiers, words}
 use Rattle.expr_parser.specs.Places.{place}
 use Rattle.expr_parser.proofs.Layouts.{height_join, written_join}
 use Rattle.expr_parser.proofs.ClassTokens.{identifier_is, some_is}
@@ -45,7 +44,7 @@ use Rattle.stmt_parser.specs.Statements.{repeat_loop, limits_of, limits, for_loo
 use Rattle.stmt_parser.specs.declared.headers.Limits.{Limits}
 use Rattle.stmt_parser.proofs.WrittenStatements.{write_repeat_of, write_for_of, write_with_of, write_try_of}
 use Rattle.stmt_parser.proofs.FormedStatements.{formed_repeat_of, formed_for_of, formed_with_of, formed_try_of}
-use Rattle.stmt_parser.proofs.SoundRows.{else_next, ReadsOne, ReadsRows}
+use Rattle.stmt_parser.proofs.SoundRows.{ReadsOne}
 use Rattle.stmt_parser.proofs.SoundStatements.{empty, empty_formed, empty_known, StmtGood, answer_wanted, plain_as, stmts_sound}
 
 -- ---- tokens

@@ -1,5 +1,5 @@
 -- Statements that are read.
-use Rattle.std.proofs.Common.{◌≡◌, ℕ, zero, suc, ◌+◌, ◌≤◌, max, Bool, true, false, ◌&&◌, not, List, [], ◌∷◌, ◌++◌, length, map, Option, Some, None, Ok, refl, sym, ap, subst, ◌∙◌, arith, true≢false}
+use Rattle.std.proofs.Common.{◌≡◌, ℕ, ◌+◌, ◌≤◌, Bool, true, false, ◌&&◌, List, [], ◌∷◌, map, Option, Some, None, refl, sym, ap, subst, ◌∙◌, arith, true≢false}
 use Rattle.std.specs.Prelude.{IsTrue}
 use Rattle.p2c_text.specs.declared.dialect.Dialect.{Dialect}
 use Rattle.p2c_text.specs.declared.place.Span.{Span}
@@ -11,28 +11,28 @@ use Rattle.pascal_tree.specs.declared.statements.Plain.{Plain}
 use Rattle.pascal_tree.specs.declared.statements.Plain.TheVariants as plain_
 use Rattle.pascal_tree.specs.declared.statements.Stmt.{Stmt}
 use Rattle.token_parsing.specs.Parser.{Outcome, Parser, and_then, begins}
-use Rattle.token_parsing.proofs.Fair.{Fair, reads, fair_then, fair_either, fair_so}
-use Rattle.expr_parser.specs.Tokens.{Token, Placed, plain, Word}
+use Rattle.token_parsing.proofs.Fair.{reads, fair_then, fair_either}
+use Rattle.expr_parser.specs.Tokens.{Placed, plain, Word}
 use Rattle.expr_parser.specs.Spans.{span_between}
-use Rattle.expr_parser.specs.Layout.{Layout, Done, ◌&◌, word, symbol, spanned, counted, tokens_of, height_of, IsWritten}
+use Rattle.expr_parser.specs.Layout.{Layout, Done, ◌&◌, word, spanned, counted, tokens_of, height_of, IsWritten}
 use Rattle.expr_parser.specs.Writing.{write_expr}
 use Rattle.expr_parser.specs.Grammar.{IsToken, AreTokens, formed_expr}
 use Rattle.expr_parser.specs.Classes.{words, symbols, expect_word}
 use Rattle.expr_parser.proofs.Layouts.{height_join, written_join}
 use Rattle.expr_parser.proofs.ClassTokens.{word_is}
-use Rattle.expr_parser.proofs.FollowedParts.{and_in, and_out}
+use Rattle.expr_parser.proofs.FollowedParts.{and_in}
 use Rattle.expr_parser.specs.Text.{Begins}
 use Rattle.expr_parser.proofs.Openings.{Opening, within, in_spanned, behind, before, Filled, filled_as, Hole}
-use Rattle.expr_parser.proofs.Spots.{Answer, Spot, Reads, Good, spot_behind, spot_within, begins_at}
+use Rattle.expr_parser.proofs.Spots.{Answer, Spot, Good, spot_behind, spot_within, begins_at}
 use Rattle.expr_parser.proofs.SoundTokens.{written_node, written_token, answer_token, answer_word}
 use Rattle.expr_parser.proofs.SoundLists.{listed}
 use Rattle.expr_parser.specs.Semicolons.{with_semicolons}
 use Rattle.stmt_parser.specs.Writing.{write_plain, write_stmt}
 use Rattle.stmt_parser.specs.Grammar.{Formed, alone, some_alone, branches, formed_plain, formed_stmt}
-use Rattle.stmt_parser.specs.Statements.{between, next_stmt, more_stmts, stmts, nothing, compound, optional_else, conditional, while_loop, repeat_loop, stmt_of}
-use Rattle.stmt_parser.proofs.WrittenStatements.{write_else, write_stmt_of, write_nothing_of, write_compound_of, write_if_of, write_while_of, write_repeat_of}
-use Rattle.stmt_parser.proofs.FormedStatements.{formed_else, formed_stmt_of, formed_nothing_of, formed_compound_of, formed_if_of, formed_while_of, formed_repeat_of}
-use Rattle.expr_parser.proofs.KnownTokens.{do_known, then_known, end_known, until_known}
+use Rattle.stmt_parser.specs.Statements.{between, next_stmt, more_stmts, stmts, nothing, compound, optional_else, conditional, while_loop, stmt_of}
+use Rattle.stmt_parser.proofs.WrittenStatements.{write_else, write_stmt_of, write_nothing_of, write_compound_of, write_if_of, write_while_of}
+use Rattle.stmt_parser.proofs.FormedStatements.{formed_else, formed_stmt_of, formed_nothing_of, formed_compound_of, formed_if_of, formed_while_of}
+use Rattle.expr_parser.proofs.KnownTokens.{do_known, then_known, end_known}
 use Rattle.stmt_parser.proofs.SoundRows.{else_next, ReadsOne, one_as, GoodOne, ReadsRows, rows_sound}
 
 -- ---- the empty statement, which may stand where one is wanted
@@ -208,8 +208,10 @@ module _ (d : Dialect) {C : Type 0} (layout : C → Layout) (form : C → Bool) 
             fair_then (inner_good (within o1 (before Done)) r1 (entered (before Done) spot1 refl tt) hole1 (omega (arith, deep))) (λ a r2 h.
             let t = write_stmt d a in
             let hole2 : else_next r2 ≡ true → Hole d layout form (λ x. word word_.KwElse & write_stmt d x) (λ x. alone (formed_stmt d x)) (within o1 (behind t)) =
-            λ next. record { at = λ x ok. filled_as layout form (ap o.plug (write_if_of d c a (Some x) end)) (hole.at (plain_.If c a (Some x) end)
-            (formed_if_of d c a (Some x) end false ∙ and_in (formed_expr d c) _ b.formed (and_in (formed_stmt d a true) _ (h.before_else next) ok))) } in
+            λ next. record {
+              at = λ x ok. filled_as layout form (ap o.plug (write_if_of d c a (Some x) end)) (hole.at (plain_.If c a (Some x) end)
+                  (formed_if_of d c a (Some x) end false ∙ and_in (formed_expr d c) _ b.formed (and_in (formed_stmt d a true) _ (h.before_else next) ok)));
+            } in
             fair_then (else_sound (within o1 (behind t)) r2 (moved t spot1 h.written) hole2 (omega (arith, deep))) (λ x r3 g.
             let z = write_else d x in let span = span_between end s r3 in let f1 = b.fits in let f2 = h.fits in let f3 = g.fits in
             reads (plain_.If c a x span) r3 (plain_as (write_if_of d c a x span) (λ f. formed_if_of d c a x span f)
