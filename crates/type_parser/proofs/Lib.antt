@@ -2,3 +2,4 @@ pub mod WrittenNodes
 pub mod FormedNodes
 pub mod Views
 pub mod Shrinks
+pub mod Fillers
