@@ -5,3 +5,4 @@ pub mod Shrinks
 pub mod Fillers
 pub mod FollowedNames
 pub mod FollowedTypes
+pub mod FollowedRows
