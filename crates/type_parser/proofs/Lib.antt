@@ -6,3 +6,4 @@ pub mod Fillers
 pub mod FollowedNames
 pub mod FollowedTypes
 pub mod FollowedRows
+pub mod FollowedVariants
