@@ -114,6 +114,11 @@ variants_spelled x w =
     let tag = write_tag (out-Variants x).tag in let name = write_type_name (out-Variants x).of in
     ap (λ l. spell l w) (variants_written x) ∙ ap (λ v. Word word_.KwCase ∷ v) (spell_join tag (name & word word_.KwOf & list_of x) w ∙ ap (λ v. spell tag v) (spell_join name (word word_.KwOf & list_of x) w))
 
+-- [";" Variants]
+abbrev pub write_more : Option Variants → Layout
+write_more None = Done
+write_more (Some v) = symbol mark.Semicolon & write_variants v
+
 module _ (n : Until) (W : Type 0) (d : Dialect) (end : Span) where
   -- ---- the tag of variants
 
@@ -238,11 +243,6 @@ module _ (n : Until) (W : Type 0) (d : Dialect) (end : Span) where
         (λ all s'. f (variants_of h all (span_between end s s')) s') (λ all. λ n r l. f_shrinks _ n r l) (λ all s e. f_begun _ s e) after rest' none (λ all s h. f_followed _ s h) tt (out-Variants x).list q r along)))
 
     -- ---- what may stand behind the fixed part
-
-    -- [";" Variants]
-    abbrev pub write_more : Option Variants → Layout
-    write_more None = Done
-    write_more (Some v) = symbol mark.Semicolon & write_variants v
 
     abbrev more_variant : Unit {0} → Parser Placed (Option Variants)
     more_variant _ = λ s. and_then (variants d end inner s) (λ v s. Ok (Some v, s))

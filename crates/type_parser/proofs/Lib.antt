@@ -7,3 +7,4 @@ pub mod FollowedNames
 pub mod FollowedTypes
 pub mod FollowedRows
 pub mod FollowedVariants
+pub mod FollowedFields
