@@ -8,3 +8,4 @@ pub mod FollowedTypes
 pub mod FollowedRows
 pub mod FollowedVariants
 pub mod FollowedFields
+pub mod FollowedFormals
