@@ -9,3 +9,4 @@ pub mod FollowedRows
 pub mod FollowedVariants
 pub mod FollowedFields
 pub mod FollowedFormals
+pub mod SoundNames
