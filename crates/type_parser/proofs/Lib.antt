@@ -10,3 +10,5 @@ pub mod FollowedVariants
 pub mod FollowedFields
 pub mod FollowedFormals
 pub mod SoundNames
+pub mod SoundTypes
+pub mod SoundRows
