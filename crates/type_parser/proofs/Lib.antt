@@ -12,3 +12,4 @@ pub mod FollowedFormals
 pub mod SoundNames
 pub mod SoundTypes
 pub mod SoundRows
+pub mod SoundVariants
