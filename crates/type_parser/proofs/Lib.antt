@@ -13,3 +13,4 @@ pub mod SoundNames
 pub mod SoundTypes
 pub mod SoundRows
 pub mod SoundVariants
+pub mod SoundFields
