@@ -14,3 +14,4 @@ pub mod SoundTypes
 pub mod SoundRows
 pub mod SoundVariants
 pub mod SoundFields
+pub mod SoundFormals
