@@ -15,3 +15,4 @@ pub mod SoundRows
 pub mod SoundVariants
 pub mod SoundFields
 pub mod SoundFormals
+pub mod Clauses
