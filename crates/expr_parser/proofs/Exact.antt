@@ -4,12 +4,16 @@ use Rattle.std.specs.List.{AllByRecursion}
 use Rattle.std.proofs.lemmas.List.{append-nil}
 use Rattle.p2c_text.specs.declared.place.Span.{Span}
 use Rattle.token_parsing.specs.Parser.{Outcome, Parser, Class, and_then, take_of, one_of, again, repeat}
-use Rattle.expr_parser.specs.Tokens.{Token, Placed, plain}
+use Rattle.pascal_tree.specs.declared.names.Identifier.{Identifier}
+use Rattle.expr_parser.specs.Tokens.{Token, Placed, Name, plain}
 use Rattle.expr_parser.specs.Spans.{span_between}
 use Rattle.expr_parser.specs.Layout.{Layout, Done, Leaf, Spanned, Counted, ◌&◌, spanned, counted, tokens_of, IsWritten}
+use Rattle.expr_parser.specs.Writing.{identifier}
+use Rattle.expr_parser.specs.Classes.{identifier_of, identifiers}
 use Rattle.expr_parser.specs.Places.{made}
 use Rattle.expr_parser.proofs.Layouts.{spell, spell_tokens, written_taken}
 use Rattle.expr_parser.proofs.Followed.{Looks, Says, on_first}
+use Rattle.expr_parser.proofs.SoundTokens.{one_span}
 
 -- ---- what is written
 
@@ -29,6 +33,9 @@ written_inside end span l s r (middle, is, inside, done) = (subst (λ z. span �
 
 pub written_under : (end : Span) (l : Layout) (s r : List Placed) → IsWritten end (counted l) s r → IsWritten end l s r
 written_under end l s r (middle, inside, done) = subst (λ z. IsWritten end l s z) done inside
+
+pub written_inside_both : (end span : Span) (l : Layout) (s r : List Placed) → IsWritten end (counted (spanned span l)) s r → (span ≡ span_between end s r) × IsWritten end l s r
+written_inside_both end span l s r h = written_inside end span l s r (written_under end (spanned span l) s r h)
 
 -- the tokens that are written, and then those that are left
 pub written_plain : (end : Span) (l : Layout) (s r : List Placed) → IsWritten end l s r → plain s ≡ spell l (plain r)
@@ -60,9 +67,22 @@ pub exact_token : {A B : Type 0} {out : Outcome Placed B} (f : A → Parser Plac
     → ((m : List Placed) → IsWritten end after m r → f a m ≡ out) → and_then (one_of class s) f ≡ out
 exact_token f class {a} says end after s r (first, more, is, same, h) k = exact_then f (token_read class a first s more is (says first same)) (k more h)
 
--- a node with its span
-pub exact_made : {A : Type 0} {x : A} (end span : Span) (node : Span → A) (s r : List Placed) → x ≡ node span → span ≡ span_between end s r → made end s node r ≡ Ok (x, r)
-exact_made end span node s r is place = ap (λ z. Ok (z, r)) (ap node (sym place) ∙ sym is)
+-- a name
+name_says : (end : Span) (i : Identifier) (t : Placed) (s r : List Placed) → s ≡ t ∷ r → t.token ≡ Name i.name → i.span ≡ span_between end s r → identifiers t ≡ Some i
+name_says end i t s r is same place =
+    let span : i.span ≡ t.span = place ∙ ap (λ z. span_between end z r) is ∙ one_span end t r in
+    let found : Identifier = record { name = i.name; span = t.span } in
+    let all : found ≡ i = ap (λ z. record { name = i.name; span = z }) (sym span) in ap (λ x. identifier_of x t.span) same ∙ ap (λ z. Some z) all
+
+pub exact_name : {B : Type 0} {out : Outcome Placed B} (f : Identifier → Parser Placed B) (i : Identifier) (end : Span) (after : Layout) (s r : List Placed) → IsWritten end (identifier i & after) s r
+    → ((m : List Placed) → IsWritten end after m r → f i m ≡ out) → and_then (one_of identifiers s) f ≡ out
+exact_name f i end after s r (middle, place, (first, more, is, same, done), h) k =
+    let place' = place ∙ ap (λ z. span_between end s z) (sym done) in
+    exact_then f (token_read identifiers i first s more is (name_says end i first s more is same place') ∙ ap (λ z. Ok (i, z)) done) (k middle h)
+
+-- a node with its span, where nothing more is written
+pub exact_made : {A : Type 0} {x : A} (end span : Span) (node : Span → A) (s m r : List Placed) → m ≡ r → x ≡ node span → span ≡ span_between end s r → made end s node m ≡ Ok (x, r)
+exact_made end span node s m r done is place = ap (λ z. made end s node z) done ∙ ap (λ z. Ok (z, r)) (ap node (sym place) ∙ sym is)
 
 -- ---- one way or another
 
@@ -108,7 +128,8 @@ module _ {A : Type 0} (end : Span) (item : A → Layout) (list : List A → Layo
   abbrev pub ItemExact : A → Type 0
   ItemExact x = (found : List A) (s r : List Placed) → IsWritten end (item x) s r → P (plain r) → part found s ≡ Ok (found ++ x ∷ [], r)
 
-  row_ends : Row → (xs : List A) (s r : List Placed) → IsWritten end (list xs) s r → P (plain r) → P (plain s)
+  -- what may follow the last may stand before the first
+  pub row_ends : Row → (xs : List A) (s r : List Placed) → IsWritten end (list xs) s r → P (plain r) → P (plain s)
   row_ends row [] s r h ends = let same : IsWritten end Done s r = written_as end s r row.none h in subst (λ z. P (plain z)) (sym same) ends
   row_ends row (x ∷ xs) s r h ends =
       let (m, one, others) = written_split end (item x) (list xs) s r (written_as end s r (row.one_more x xs) h) in ends_plain P end (item x) s m one (row.ends x (plain m))

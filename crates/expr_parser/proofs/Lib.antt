@@ -31,3 +31,5 @@ pub mod ConstantShrinks
 pub mod FollowedConstants
 pub mod SoundConstants
 pub mod Exact
+pub mod ExactTerms
+pub mod ExactLists
