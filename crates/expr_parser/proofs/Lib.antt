@@ -33,3 +33,4 @@ pub mod SoundConstants
 pub mod Exact
 pub mod ExactTerms
 pub mod ExactLists
+pub mod ExactPlaces
