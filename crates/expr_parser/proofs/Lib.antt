@@ -34,3 +34,4 @@ pub mod Exact
 pub mod ExactTerms
 pub mod ExactLists
 pub mod ExactPlaces
+pub mod ExactFactors
