@@ -35,3 +35,5 @@ pub mod ExactTerms
 pub mod ExactLists
 pub mod ExactPlaces
 pub mod ExactFactors
+pub mod ExactConstants
+pub mod Unique
