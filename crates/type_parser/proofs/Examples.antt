@@ -49,10 +49,10 @@ one_field : type_node Iso (span 6 6) 3 (opening ∷ a ∷ colon ∷ b ∷ semico
 unfolding one_of begins again repeat span_between same_word same_symbol names more_names named simple_type record_type structure optional_packed structured type_by section more_sections fixed optional_variants optional_semicolon with_fixed fields_by type_node fields
 one_field = refl
 
--- `record a : ;`
-no_type : type_node Iso (span 5 5) 3 (opening ∷ a ∷ colon ∷ semicolon ∷ []) ≡ Err (Unexpected 1)
-unfolding one_of begins again repeat span_between same_word same_symbol names more_names named simple_type record_type structure optional_packed structured type_by section more_sections fixed optional_variants optional_semicolon with_fixed fields_by type_node fields
-no_type = refl
+-- `record a b`
+no_colon : type_node Iso (span 5 5) 3 (opening ∷ a ∷ b ∷ []) ≡ Err (Unexpected 1)
+unfolding one_of begins again repeat span_between same_word same_symbol names more_names record_type structure optional_packed structured type_by section fixed with_fixed fields_by type_node fields
+no_colon = refl
 
 -- a record and its list of fields are two levels
 one_level : type_node Iso (span 6 6) 1 (opening ∷ closing ∷ []) ≡ Err (TooDeep 1)

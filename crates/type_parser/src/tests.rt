@@ -235,7 +235,12 @@ fn each_type_and_each_list_is_a_level(rt: HostRuntime) {
             399,
             Answer::TooDeep(21),
         ),
-        ("record case a of 1: () end", Part::Type, 398, Answer::Left(0)),
+        (
+            "record case a of 1: () end",
+            Part::Type,
+            398,
+            Answer::Left(0),
+        ),
         (
             "record case a of 1: (case b of 2: (c: d)) end",
             Part::Type,
@@ -250,7 +255,12 @@ fn each_type_and_each_list_is_a_level(rt: HostRuntime) {
         ),
         ("(a: b)", Part::Formals, 401, Answer::TooDeep(0)),
         ("(a: b)", Part::Formals, 400, Answer::Left(0)),
-        ("(procedure p(a: b))", Part::Formals, 400, Answer::TooDeep(12)),
+        (
+            "(procedure p(a: b))",
+            Part::Formals,
+            400,
+            Answer::TooDeep(12),
+        ),
         ("(procedure p(a: b))", Part::Formals, 399, Answer::Left(0)),
     ] {
         assert_eq!(rt;
