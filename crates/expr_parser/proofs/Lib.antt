@@ -37,3 +37,4 @@ pub mod ExactPlaces
 pub mod ExactFactors
 pub mod ExactConstants
 pub mod Unique
+pub mod WordsKnown
