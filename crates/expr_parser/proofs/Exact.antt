@@ -3,7 +3,7 @@ use Rattle.std.proofs.Common.{◌≡◌, ℕ, zero, suc, ◌+◌, ◌<◌, ◌�
 use Rattle.std.specs.List.{AllByRecursion}
 use Rattle.std.proofs.lemmas.List.{append-nil}
 use Rattle.p2c_text.specs.declared.place.Span.{Span}
-use Rattle.token_parsing.specs.Parser.{Outcome, Parser, Class, and_then, take_of, one_of, again, repeat}
+use Rattle.token_parsing.specs.Parser.{Outcome, Parser, Class, and_then, take_of, one_of, rest, again, repeat}
 use Rattle.pascal_tree.specs.declared.names.Identifier.{Identifier}
 use Rattle.expr_parser.specs.Tokens.{Token, Placed, Name, plain}
 use Rattle.expr_parser.specs.Spans.{span_between}
@@ -74,11 +74,18 @@ name_says end i t s r is same place =
     let found : Identifier = record { name = i.name; span = t.span } in
     let all : found ≡ i = ap (λ z. record { name = i.name; span = z }) (sym span) in ap (λ x. identifier_of x t.span) same ∙ ap (λ z. Some z) all
 
+pub name_exact : (end : Span) (i : Identifier) (s r : List Placed) → IsWritten end (identifier i) s r → one_of identifiers s ≡ Ok (i, r)
+name_exact end i s r (middle, place, (first, more, is, same, done), closed) =
+    let here : more ≡ r = done ∙ closed in
+    token_read identifiers i first s more is (name_says end i first s more is same (place ∙ ap (λ z. span_between end s z) (sym done))) ∙ ap (λ z. Ok (i, z)) here
+
+-- what stands behind a name
+pub name_rest : (end : Span) (i : Identifier) (s r : List Placed) → IsWritten end (identifier i) s r → rest s ≡ r
+name_rest end i s r (middle, place, (first, more, is, same, done), closed) = ap rest is ∙ done ∙ closed
+
 pub exact_name : {B : Type 0} {out : Outcome Placed B} (f : Identifier → Parser Placed B) (i : Identifier) (end : Span) (after : Layout) (s r : List Placed) → IsWritten end (identifier i & after) s r
     → ((m : List Placed) → IsWritten end after m r → f i m ≡ out) → and_then (one_of identifiers s) f ≡ out
-exact_name f i end after s r (middle, place, (first, more, is, same, done), h) k =
-    let place' = place ∙ ap (λ z. span_between end s z) (sym done) in
-    exact_then f (token_read identifiers i first s more is (name_says end i first s more is same place') ∙ ap (λ z. Ok (i, z)) done) (k middle h)
+exact_name f i end after s r (middle, place, inside, h) k = exact_then f (name_exact end i s middle (middle, place, inside, refl)) (k middle h)
 
 -- a node with its span, where nothing more is written
 pub exact_made : {A : Type 0} {x : A} (end span : Span) (node : Span → A) (s m r : List Placed) → m ≡ r → x ≡ node span → span ≡ span_between end s r → made end s node m ≡ Ok (x, r)
