@@ -19,3 +19,6 @@ pub mod Clauses
 pub mod Examples
 pub mod ExactNames
 pub mod ExactTypes
+pub mod ExactVariants
+pub mod ExactFields
+pub mod ExactFormals
