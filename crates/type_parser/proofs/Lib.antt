@@ -16,3 +16,9 @@ pub mod SoundVariants
 pub mod SoundFields
 pub mod SoundFormals
 pub mod Clauses
+pub mod Examples
+pub mod ExactNames
+pub mod ExactTypes
+pub mod ExactVariants
+pub mod ExactFields
+pub mod ExactFormals
