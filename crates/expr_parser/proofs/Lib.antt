@@ -35,3 +35,4 @@ pub mod ExactTerms
 pub mod ExactLists
 pub mod ExactPlaces
 pub mod ExactFactors
+pub mod WordsKnown
