@@ -39,6 +39,13 @@ module _ (d : Dialect) (end : Span) (k : ℕ) where
   abbrev pub FactorExact : Parser Placed Factor → Type 0
   FactorExact p = (f : Factor) → Part (Unit {0}) k (write_factor f) (formed_factor d f) → (s r : List Placed) → IsWritten end (write_factor f) s r → FactorEnds (plain r) → p s ≡ Ok (f, r)
 
+-- a sign, or none before a token that is no sign
+pub sign_exact : (end : Span) (sign : Option Sign) (s r : List Placed) → IsWritten end (write_sign sign) s r → on_first on_sign (plain r) ≡ false → optional_sign s ≡ Ok (sign, r)
+unfolding optional_sign
+sign_exact end None s r h none = exact_second (begins signs s) _ _ (looks_written looks_sign end Done s r h ∙ none) (ap (λ z. Ok (None, z)) h)
+sign_exact end (Some op) s r h none =
+    exact_first (begins signs s) _ _ (looks_written looks_sign end (token (sign_token op)) s r h ∙ on_sign_here op) (exact_token _ signs (says_sign op) end Done s r h (λ m h. ap (λ z. Ok (Some op, z)) h))
+
 -- ---- terms
 
 module _ (d : Dialect) (end : Span) (k : ℕ) (child : Parser Placed Factor) (good : FactorExact d end k child) where
@@ -98,19 +105,13 @@ module _ (d : Dialect) (end : Span) (k : ℕ) (child : Parser Placed Factor) (go
     ends = λ x w. subst TermEnds (sym (added_spelled x w)) (adding_ends (out-AddedTerm x).operator _);
   }
 
-  sign_exact : (sign : Option Sign) (s r : List Placed) → IsWritten end (write_sign sign) s r → on_first on_sign (plain r) ≡ false → optional_sign s ≡ Ok (sign, r)
-  unfolding optional_sign
-  sign_exact None s r h none = exact_second (begins signs s) _ _ (looks_written looks_sign end Done s r h ∙ none) (ap (λ z. Ok (None, z)) h)
-  sign_exact (Some op) s r h none =
-      exact_first (begins signs s) _ _ (looks_written looks_sign end (token (sign_token op)) s r h ∙ on_sign_here op) (exact_token _ signs (says_sign op) end Done s r h (λ m h. ap (λ z. Ok (Some op, z)) h))
-
   simple_exact : (x : Simple) → Part (Unit {0}) k (write_simple x) (formed_simple d x) → (s r : List Placed) → IsWritten end (write_simple x) s r → SimpleEnds (plain r) → simple end child s ≡ Ok (x, r)
   unfolding simple more_terms
   simple_exact x part s r h ends =
       let p = simple_part d x part in
       let sign = write_sign (out-Simple x).sign in let first = write_term (out-Simple x).first in let row = in_row (map write_added (out-Simple x).rest) in
       let (place, inside) = written_inside end (out-Simple x).span (sign & first & row) s r (written_as end s r (simple_written x) h) in
-      exact_part _ (out-Simple x).sign end sign (first & row) s r inside (λ m left right. sign_exact (out-Simple x).sign s m left (not_signed (out-Simple x).first row m r right)) (λ m right.
+      exact_part _ (out-Simple x).sign end sign (first & row) s r inside (λ m left right. sign_exact end (out-Simple x).sign s m left (not_signed (out-Simple x).first row m r right)) (λ m right.
       exact_part _ (out-Simple x).first end first row m r right (λ m' left right. term_exact (out-Simple x).first (part_first first row _ _ p) m m' left (row_ends end _ _ _ _ _ _ term_row (out-Simple x).rest m' r right ends.term)) (λ m right.
       exact_then _ (list_exact end _ _ _ _ _ _ term_row (out-Simple x).rest (term_items (out-Simple x).rest (part_second first row _ _ p)) [] m r right ends.term ends.adding)
       (exact_made end (out-Simple x).span (simple_of (out-Simple x).sign (out-Simple x).first (out-Simple x).rest) s r r refl (simple_is x) place)))

@@ -35,4 +35,6 @@ pub mod ExactTerms
 pub mod ExactLists
 pub mod ExactPlaces
 pub mod ExactFactors
+pub mod ExactConstants
+pub mod Unique
 pub mod WordsKnown
