@@ -19,3 +19,7 @@ pub mod SoundCases
 pub mod SoundLevels
 pub mod Clauses
 pub mod Examples
+pub mod ExactRows
+pub mod ExactSimple
+pub mod ExactStatements
+pub mod ExactArms
