@@ -3,7 +3,7 @@ use Rattle.std.proofs.Common.{◌≡◌, ℕ, zero, suc, ◌+◌, ◌<◌, ◌�
 use Rattle.std.specs.List.{AllByRecursion}
 use Rattle.std.proofs.lemmas.List.{append-nil}
 use Rattle.p2c_text.specs.declared.place.Span.{Span}
-use Rattle.token_parsing.specs.Parser.{Outcome, Parser, Class, and_then, take_of, one_of, again, repeat}
+use Rattle.token_parsing.specs.Parser.{Outcome, Parser, Class, and_then, take_of, one_of, rest, again, repeat}
 use Rattle.pascal_tree.specs.declared.names.Identifier.{Identifier}
 use Rattle.expr_parser.specs.Tokens.{Token, Placed, Name, plain}
 use Rattle.expr_parser.specs.Spans.{span_between}
@@ -74,11 +74,18 @@ name_says end i t s r is same place =
     let found : Identifier = record { name = i.name; span = t.span } in
     let all : found ≡ i = ap (λ z. record { name = i.name; span = z }) (sym span) in ap (λ x. identifier_of x t.span) same ∙ ap (λ z. Some z) all
 
+pub name_exact : (end : Span) (i : Identifier) (s r : List Placed) → IsWritten end (identifier i) s r → one_of identifiers s ≡ Ok (i, r)
+name_exact end i s r (middle, place, (first, more, is, same, done), closed) =
+    let here : more ≡ r = done ∙ closed in
+    token_read identifiers i first s more is (name_says end i first s more is same (place ∙ ap (λ z. span_between end s z) (sym done))) ∙ ap (λ z. Ok (i, z)) here
+
+-- what stands behind a name
+pub name_rest : (end : Span) (i : Identifier) (s r : List Placed) → IsWritten end (identifier i) s r → rest s ≡ r
+name_rest end i s r (middle, place, (first, more, is, same, done), closed) = ap rest is ∙ done ∙ closed
+
 pub exact_name : {B : Type 0} {out : Outcome Placed B} (f : Identifier → Parser Placed B) (i : Identifier) (end : Span) (after : Layout) (s r : List Placed) → IsWritten end (identifier i & after) s r
     → ((m : List Placed) → IsWritten end after m r → f i m ≡ out) → and_then (one_of identifiers s) f ≡ out
-exact_name f i end after s r (middle, place, (first, more, is, same, done), h) k =
-    let place' = place ∙ ap (λ z. span_between end s z) (sym done) in
-    exact_then f (token_read identifiers i first s more is (name_says end i first s more is same place') ∙ ap (λ z. Ok (i, z)) done) (k middle h)
+exact_name f i end after s r (middle, place, inside, h) k = exact_then f (name_exact end i s middle (middle, place, inside, refl)) (k middle h)
 
 -- a node with its span, where nothing more is written
 pub exact_made : {A : Type 0} {x : A} (end span : Span) (node : Span → A) (s m r : List Placed) → m ≡ r → x ≡ node span → span ≡ span_between end s r → made end s node m ≡ Ok (x, r)
@@ -105,7 +112,7 @@ looks_written {on} looks end l s r h = looks_plain looks s ∙ ap (on_first on) 
 -- ---- again and again
 
 -- what is written with some token takes one at least
-some_taken : (on : Token → Bool) (end : Span) (l : Layout) (s r : List Placed) → IsWritten end l s r → on_first on (spell l []) ≡ true → length r < length s
+pub some_taken : (on : Token → Bool) (end : Span) (l : Layout) (s r : List Placed) → IsWritten end l s r → on_first on (spell l []) ≡ true → length r < length s
 some_taken on end l s r h starts = by (tokens_of l) refl (ap (on_first on) (sym (append-nil (tokens_of l)) ∙ sym (spell_tokens l [])) ∙ starts)
   where
     by : (w : List Token) → w ≡ tokens_of l → on_first on w ≡ true → length r < length s
@@ -117,6 +124,46 @@ some_taken on end l s r h starts = by (tokens_of l) refl (ap (on_first on) (sym 
         longer (t ∷ taken) is are = let same = ap length is in let long = length-append taken r in omega (arith, same, long)
 
 -- Items in a row, each read by a part that puts it behind those before, where P holds of what follows.
+module _ {A : Type 0} (end : Span) (item : A → Layout) (list : List A → Layout) (test : List Placed → Bool) (part : List A → Parser Placed (List A)) (P : List Token → Type 0) where
+  pub record Chain : Type 0 where
+    pub none : list [] ≡ Done
+    pub one_more : (x : A) (more : List A) → list (x ∷ more) ≡ (item x & list more)
+    pub ends : (x : A) (w : List Token) → P (spell (item x) w)
+
+  -- a turn begins, takes some token, and reads the item
+  abbrev pub Turn : A → Type 0
+  Turn x = (found : List A) (s r : List Placed) → IsWritten end (item x) s r → P (plain r) → (test s ≡ true) × (length r < length s) × (part found s ≡ Ok (found ++ x ∷ [], r))
+
+  -- what may follow the last may stand before the first
+  pub chain_ends : Chain → (xs : List A) (s r : List Placed) → IsWritten end (list xs) s r → P (plain r) → P (plain s)
+  chain_ends chain [] s r h ends = let same : IsWritten end Done s r = written_as end s r chain.none h in subst (λ z. P (plain z)) (sym same) ends
+  chain_ends chain (x ∷ xs) s r h ends =
+      let (m, one, others) = written_split end (item x) (list xs) s r (written_as end s r (chain.one_more x xs) h) in ends_plain P end (item x) s m one (chain.ends x (plain m))
+
+  one_turn : (g : ℕ) (found : List A) (s : List Placed) {more : List A} {m : List Placed} {out : Outcome Placed (List A)} → test s ≡ true → length m < length s → length s ≤ g → part found s ≡ Ok (more, m)
+      → ((g : ℕ) → length m ≤ g → again test part g more m ≡ out) → again test part g found s ≡ out
+  unfolding again
+  one_turn zero found s begins below enough is k = absurd (omega arith)
+  one_turn (suc g) found s begins below enough is k = exact_first (test s) _ _ begins (exact_then (again test part g) is (k g (omega arith)))
+
+  no_turn : (g : ℕ) (found : List A) (s : List Placed) → test s ≡ false → again test part g found s ≡ Ok (found, s)
+  unfolding again
+  no_turn zero found s ends = refl
+  no_turn (suc g) found s ends = exact_second (test s) _ _ ends refl
+
+  again_exact : Chain → (xs : List A) → AllByRecursion Turn xs → (found : List A) (g : ℕ) (s r : List Placed) → IsWritten end (list xs) s r → P (plain r) → test r ≡ false → length s ≤ g → again test part g found s ≡ Ok (found ++ xs, r)
+  again_exact chain [] turns found g s r h ends stops enough =
+      let same : IsWritten end Done s r = written_as end s r chain.none h in no_turn g found s (ap test same ∙ stops) ∙ ap (λ z. Ok (z, s)) (sym (append-nil found)) ∙ ap (λ z. Ok (found ++ [], z)) same
+  again_exact chain (x ∷ xs) turns found g s r h ends stops enough =
+      let (m, one, others) = written_split end (item x) (list xs) s r (written_as end s r (chain.one_more x xs) h) in
+      let (begins, below, is) = turns.0 found s m one (chain_ends chain xs m r others ends) in
+      one_turn g found s begins below enough is (λ g enough. again_exact chain xs turns.1 (found ++ x ∷ []) g m r others ends stops enough ∙ ap (λ z. Ok (z, r)) (append_assoc found (x ∷ []) xs))
+
+  pub chain_exact : Chain → (xs : List A) → AllByRecursion Turn xs → (found : List A) (s r : List Placed) → IsWritten end (list xs) s r → P (plain r) → test r ≡ false → repeat test part found s ≡ Ok (found ++ xs, r)
+  unfolding repeat
+  chain_exact chain xs turns found s r h ends stops = again_exact chain xs turns found (length s) s r h ends stops (omega arith)
+
+-- Items of which the next token tells that one begins.
 module _ {A : Type 0} (end : Span) (item : A → Layout) (list : List A → Layout) (test : List Placed → Bool) (on : Token → Bool) (part : List A → Parser Placed (List A)) (P : List Token → Type 0) where
   pub record Row : Type 0 where
     pub none : list [] ≡ Done
@@ -128,34 +175,19 @@ module _ {A : Type 0} (end : Span) (item : A → Layout) (list : List A → Layo
   abbrev pub ItemExact : A → Type 0
   ItemExact x = (found : List A) (s r : List Placed) → IsWritten end (item x) s r → P (plain r) → part found s ≡ Ok (found ++ x ∷ [], r)
 
-  -- what may follow the last may stand before the first
+  chain_of : Row → Chain end item list test part P
+  chain_of row = record { none = row.none; one_more = row.one_more; ends = row.ends }
+
+  turns_of : Row → (xs : List A) → AllByRecursion ItemExact xs → AllByRecursion (Turn end item list test part P) xs
+  turns_of row [] items = tt
+  turns_of row (x ∷ xs) items = (
+    λ found s r h ends. (looks_written row.looks end (item x) s r h ∙ row.starts x (plain r), some_taken on end (item x) s r h (row.starts x []), items.0 found s r h ends),
+    turns_of row xs items.1,
+  )
+
   pub row_ends : Row → (xs : List A) (s r : List Placed) → IsWritten end (list xs) s r → P (plain r) → P (plain s)
-  row_ends row [] s r h ends = let same : IsWritten end Done s r = written_as end s r row.none h in subst (λ z. P (plain z)) (sym same) ends
-  row_ends row (x ∷ xs) s r h ends =
-      let (m, one, others) = written_split end (item x) (list xs) s r (written_as end s r (row.one_more x xs) h) in ends_plain P end (item x) s m one (row.ends x (plain m))
-
-  turn : (g : ℕ) (found : List A) (s : List Placed) {more : List A} {m : List Placed} {out : Outcome Placed (List A)} → test s ≡ true → length m < length s → length s ≤ g → part found s ≡ Ok (more, m)
-      → ((g : ℕ) → length m ≤ g → again test part g more m ≡ out) → again test part g found s ≡ out
-  unfolding again
-  turn zero found s begins below enough is k = absurd (omega arith)
-  turn (suc g) found s begins below enough is k = exact_first (test s) _ _ begins (exact_then (again test part g) is (k g (omega arith)))
-
-  no_turn : (g : ℕ) (found : List A) (s : List Placed) → test s ≡ false → again test part g found s ≡ Ok (found, s)
-  unfolding again
-  no_turn zero found s ends = refl
-  no_turn (suc g) found s ends = exact_second (test s) _ _ ends refl
-
-  again_exact : Row → (xs : List A) → AllByRecursion ItemExact xs → (found : List A) (g : ℕ) (s r : List Placed) → IsWritten end (list xs) s r → P (plain r) → on_first on (plain r) ≡ false → length s ≤ g
-      → again test part g found s ≡ Ok (found ++ xs, r)
-  again_exact row [] items found g s r h ends stops enough =
-      let same : IsWritten end Done s r = written_as end s r row.none h in
-      no_turn g found s (ap test same ∙ looks_plain row.looks r ∙ stops) ∙ ap (λ z. Ok (z, s)) (sym (append-nil found)) ∙ ap (λ z. Ok (found ++ [], z)) same
-  again_exact row (x ∷ xs) items found g s r h ends stops enough =
-      let (m, one, others) = written_split end (item x) (list xs) s r (written_as end s r (row.one_more x xs) h) in
-      turn g found s (looks_written row.looks end (item x) s m one ∙ row.starts x (plain m)) (some_taken on end (item x) s m one (row.starts x [])) enough (items.0 found s m one (row_ends row xs m r others ends))
-      (λ g enough. again_exact row xs items.1 (found ++ x ∷ []) g m r others ends stops enough ∙ ap (λ z. Ok (z, r)) (append_assoc found (x ∷ []) xs))
+  row_ends row xs s r h ends = chain_ends end item list test part P (chain_of row) xs s r h ends
 
   pub list_exact : Row → (xs : List A) → AllByRecursion ItemExact xs → (found : List A) (s r : List Placed) → IsWritten end (list xs) s r → P (plain r) → on_first on (plain r) ≡ false
       → repeat test part found s ≡ Ok (found ++ xs, r)
-  unfolding repeat
-  list_exact row xs items found s r h ends stops = again_exact row xs items found (length s) s r h ends stops (omega arith)
+  list_exact row xs items found s r h ends stops = chain_exact end item list test part P (chain_of row) xs (turns_of row xs items) found s r h ends (looks_plain row.looks r ∙ stops)

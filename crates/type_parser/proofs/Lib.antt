@@ -17,3 +17,5 @@ pub mod SoundFields
 pub mod SoundFormals
 pub mod Clauses
 pub mod Examples
+pub mod ExactNames
+pub mod ExactTypes
