@@ -1,5 +1,5 @@
 -- The arms of a `case` that are written are read.
-use Rattle.std.proofs.Common.{◌≡◌, ℕ, zero, suc, ◌<◌, ◌≤◌, Bool, true, false, ◌&&◌, List, [], ◌∷◌, ◌++◌, length, map, Some, None, Ok, refl, sym, ap, subst, ◌∙◌, append_assoc, arith, length-append, true≢false}
+use Rattle.std.proofs.Common.{◌≡◌, ℕ, zero, suc, ◌<◌, ◌≤◌, Bool, true, false, ◌&&◌, List, [], ◌∷◌, ◌++◌, length, map, Some, None, Ok, refl, sym, ap, subst, ◌∙◌, append_assoc, arith, true≢false}
 use Rattle.std.specs.Prelude.{IsTrue}
 use Rattle.std.proofs.lemmas.List.{append-nil}
 use Rattle.p2c_text.specs.declared.dialect.Dialect.{Dialect}
@@ -19,12 +19,12 @@ use Rattle.expr_parser.specs.Classes.{symbols, same_symbol}
 use Rattle.expr_parser.specs.Constants.{begins_constant}
 use Rattle.expr_parser.specs.ConstantNodes.{write_case_label, write_constant, formed_case_label}
 use Rattle.expr_parser.specs.Semicolons.{after_semicolons, with_semicolons}
-use Rattle.expr_parser.proofs.Layouts.{spell, spell_join, written_taken}
+use Rattle.expr_parser.proofs.Layouts.{spell, spell_join}
 use Rattle.expr_parser.proofs.Followed.{on_first}
 use Rattle.expr_parser.proofs.FollowedParts.{and_in, and_out, Part, part_as, part_first, part_second, part_left, part_right, part_inside}
 use Rattle.expr_parser.proofs.FollowedConstants.{LabelEnds}
 use Rattle.expr_parser.proofs.Lookahead.{looks_symbol, on_symbol, on_symbol_here, says_symbol}
-use Rattle.expr_parser.proofs.Exact.{written_as, written_split, written_inside, written_plain, ends_plain, exact_then, exact_part, exact_token, exact_made, exact_first, exact_second, looks_plain}
+use Rattle.expr_parser.proofs.Exact.{written_as, written_split, written_inside, written_plain, ends_plain, exact_then, exact_part, exact_token, exact_made, exact_first, exact_second, looks_plain, some_taken}
 use Rattle.expr_parser.proofs.ExactConstants.{case_labels_exact}
 use Rattle.stmt_parser.specs.Writing.{write_arm, write_stmt}
 use Rattle.stmt_parser.specs.Grammar.{some_up_to, formed_arm, formed_stmt}
@@ -75,10 +75,6 @@ arm_begins d x follows formed w =
     let of_labels = (and_out _ (formed_stmt d (out-Arm x).body follows) (sym (arm_formed d x follows) ∙ formed)).0 in
     ap (λ l. on_first on_constant (spell l w)) (arm_written d x) ∙ ap (on_first on_constant) (spell_join labels body w) ∙ labels_begin d (out-Arm x).labels of_labels _
 
--- a semicolon and an arm are two tokens at least
-fewer : (end : Span) (l : Layout) (s r : List Placed) → IsWritten end (symbol mark.Semicolon & l) s r → length r < length s
-fewer end l s r (first, more, is, same, h) = let t = written_taken end l more r h in let long = length-append t.tokens r in let a = ap length is in let b = ap length t.is in omega (arith, long, a, b)
-
 module _ (d : Dialect) (end : Span) (k : ℕ) (inner : Parser Placed Stmt) (inner_good : StmtExact d end k inner) where
   arm_exact : (x : Arm) (follows : Bool) → Part (Unit {0}) k (write_arm d x) (formed_arm d x follows) → (s r : List Placed) → IsWritten end (write_arm d x) s r → StmtEnds follows (plain r) → arm d end inner s ≡ Ok (x, r)
   unfolding arm same_symbol
@@ -103,9 +99,10 @@ module _ (d : Dialect) (end : Span) (k : ℕ) (inner : Parser Placed Stmt) (inne
   turn : (x : Arm) (follows : Bool) → Part (Unit {0}) k (write_arm d x) (formed_arm d x follows) → (found : List Arm) (g : ℕ) (s m : List Placed) {out : Outcome Placed (List Arm)} → IsWritten end (symbol mark.Semicolon & write_arm d x) s m
       → StmtEnds follows (plain m) → length s ≤ g → ((g : ℕ) → length m ≤ g → turns g (found ++ x ∷ []) m ≡ out) → turns g found s ≡ out
   unfolding again
-  turn x follows part found zero s m h ends enough go = let below = fewer end (write_arm d x) s m h in absurd (omega (arith, enough, below))
+  turn x follows part found zero s m h ends enough go =
+      let below = some_taken (on_symbol mark.Semicolon) end (symbol mark.Semicolon & write_arm d x) s m h (on_symbol_here mark.Semicolon) in absurd (omega (arith, enough, below))
   turn x follows part found (suc g) s m h ends enough go =
-      let below = fewer end (write_arm d x) s m h in
+      let below = some_taken (on_symbol mark.Semicolon) end (symbol mark.Semicolon & write_arm d x) s m h (on_symbol_here mark.Semicolon) in
       let begun = goes_on_plain s ∙ ap arm_goes_on (written_plain end (symbol mark.Semicolon & write_arm d x) s m h) ∙ and_in (on_symbol mark.Semicolon (Symbol mark.Semicolon)) _ (on_symbol_here mark.Semicolon) (arm_begins d x follows part.formed (plain m)) in
       exact_first (begins_next_arm s) _ _ begun (exact_then (turns g) (next_exact x follows part found s m h ends) (go g (omega (arith, enough, below))))
 

@@ -29,6 +29,7 @@ use Rattle.expr_parser.proofs.Followed.{on_first}
 use Rattle.expr_parser.proofs.FollowedParts.{Part, part_as, part_first, part_second, part_left, part_right, part_inside}
 use Rattle.expr_parser.proofs.Lookahead.{looks_name, looks_word, on_selector, on_symbol, says_word}
 use Rattle.expr_parser.proofs.Exact.{written_as, written_split, written_inside, written_plain, ends_plain, exact_then, exact_part, exact_token, exact_name, exact_made, exact_first, exact_second, looks_written}
+use Rattle.expr_parser.proofs.ExactLists.{semicolons_exact}
 use Rattle.expr_parser.proofs.ExactTerms.{ExprExact}
 use Rattle.expr_parser.proofs.ExactConstants.{label_exact}
 use Rattle.stmt_parser.specs.Writing.{optional_args, direction_word, write_plain, write_stmt}
@@ -38,7 +39,6 @@ use Rattle.stmt_parser.specs.Levels.{structured, plain_by}
 use Rattle.stmt_parser.proofs.WrittenStatements.{write_else, write_nothing_of, write_assign_of, write_call_of, write_goto_of, write_compound_of, write_if_of, write_while_of, write_repeat_of, write_for_of, write_with_of, write_try_of}
 use Rattle.stmt_parser.proofs.FormedStatements.{formed_else, formed_assign_of, formed_call_of, formed_goto_of, formed_compound_of, formed_if_of, formed_while_of, formed_repeat_of, formed_for_of, formed_with_of, formed_try_of}
 use Rattle.stmt_parser.proofs.Ends.{StmtEnds, semicolon_ends, end_ends, until_ends, recover_ends, else_ends, then_ends, do_ends}
-use Rattle.stmt_parser.proofs.ExactRows.{semicolons_exact}
 use Rattle.stmt_parser.proofs.ExactSimple.{exact_between, exact_limits, places_exact, assignment_exact, call_exact}
 
 and_right : (x y z : Bool) → (x && y && z) ≡ (x && (y && z))
@@ -51,11 +51,11 @@ module _ (d : Dialect) (end : Span) (k : ℕ) where
 
 module _ (d : Dialect) (end : Span) (k : ℕ) (inner : Parser Placed Stmt) (inner_good : StmtExact d end k inner) where
   -- statements in a row
-  pub statements_exact : (xs : List Stmt) → Part (Unit {0}) k (with_semicolons (map (write_stmt d) xs)) (some_alone (map (formed_stmt d) xs)) → (s r : List Placed) → IsWritten end (with_semicolons (map (write_stmt d) xs)) s r
+  pub stmts_exact : (xs : List Stmt) → Part (Unit {0}) k (with_semicolons (map (write_stmt d) xs)) (some_alone (map (formed_stmt d) xs)) → (s r : List Placed) → IsWritten end (with_semicolons (map (write_stmt d) xs)) s r
       → StmtEnds false (plain r) → on_first (on_symbol mark.Semicolon) (plain r) ≡ false → stmts inner s ≡ Ok (xs, r)
   unfolding stmts more_stmts next_stmt
-  statements_exact [] part s r h ends closed = let none = part.formed in absurd cc
-  statements_exact (x ∷ xs) part s r h ends closed =
+  stmts_exact [] part s r h ends closed = let none = part.formed in absurd cc
+  stmts_exact (x ∷ xs) part s r h ends closed =
       semicolons_exact end k (write_stmt d) (λ y. alone (formed_stmt d y)) inner (λ w. StmtEnds false w) semicolon_ends (λ y p s r h ends. inner_good y false p s r h ends) x xs
       (part_as refl (ap some_all (map-map alone (formed_stmt d) (x ∷ xs))) part) s r h ends closed
 
@@ -117,7 +117,7 @@ module _ (d : Dialect) (end : Span) (k : ℕ) (child : Parser Placed Expr) (good
       exact_second _ _ _ (looks_written looks_name end l s r inside) (exact_second _ _ _ (looks_written (looks_word word_.KwGoto) end l s r inside)
       (exact_first _ _ _ (looks_written (looks_word word_.KwBegin) end l s r inside)
       (exact_token _ (words word_.KwBegin) (says_word word_.KwBegin) end (list & close) s r inside (λ m h.
-      exact_part _ body end list close m r h (λ m' left right. statements_exact d end k inner inner_good body p m m' left (ends_plain (λ w. StmtEnds false w) end close m' r right (end_ends _)) (ap (on_first (on_symbol mark.Semicolon)) (written_plain end close m' r right))) (λ m h.
+      exact_part _ body end list close m r h (λ m' left right. stmts_exact d end k inner inner_good body p m m' left (ends_plain (λ w. StmtEnds false w) end close m' r right (end_ends _)) (ap (on_first (on_symbol mark.Semicolon)) (written_plain end close m' r right))) (λ m h.
       exact_token _ (words word_.KwEnd) (says_word word_.KwEnd) end Done m r h (λ m h. exact_made end span (plain_.Compound body) s m r h refl place))))))
 
   -- the `then` part and the `else` part
@@ -175,7 +175,7 @@ module _ (d : Dialect) (end : Span) (k : ℕ) (child : Parser Placed Expr) (good
       (exact_first _ _ _ (looks_written (looks_word word_.KwRepeat) end l s r inside)
       (exact_token _ (words word_.KwRepeat) (says_word word_.KwRepeat) end (list & last) s r inside (λ m h.
       exact_part _ body end list last m r h (λ m' left right.
-      statements_exact d end k inner inner_good body (part_first list last _ _ p) m m' left (ends_plain (λ w. StmtEnds false w) end last m' r right (until_ends _)) (ap (on_first (on_symbol mark.Semicolon)) (written_plain end last m' r right))) (λ m h.
+      stmts_exact d end k inner inner_good body (part_first list last _ _ p) m m' left (ends_plain (λ w. StmtEnds false w) end last m' r right (until_ends _)) (ap (on_first (on_symbol mark.Semicolon)) (written_plain end last m' r right))) (λ m h.
       exact_token _ (words word_.KwUntil) (says_word word_.KwUntil) end u m r h (λ m h.
       exact_then _ (good until (part_right (word word_.KwUntil) u (part_second list last _ _ p)) m r h ends.expr) (exact_made end span (plain_.Repeat body until) s r r refl refl place)))))))))))
 
@@ -230,6 +230,6 @@ module _ (d : Dialect) (end : Span) (k : ℕ) (child : Parser Placed Expr) (good
       (exact_second _ _ _ (looks_written (looks_word word_.KwWith) end l s r inside) (exact_first _ _ _ (looks_written (looks_word word_.KwTry) end l s r inside)
       (exact_token _ (words word_.KwTry) (says_word word_.KwTry) end (list & last) s r inside (λ m h.
       exact_part _ body end list last m r h (λ m' left right.
-      statements_exact d end k inner inner_good body (part_first list last _ _ p) m m' left (ends_plain (λ w. StmtEnds false w) end last m' r right (recover_ends _)) (ap (on_first (on_symbol mark.Semicolon)) (written_plain end last m' r right))) (λ m h.
+      stmts_exact d end k inner inner_good body (part_first list last _ _ p) m m' left (ends_plain (λ w. StmtEnds false w) end last m' r right (recover_ends _)) (ap (on_first (on_symbol mark.Semicolon)) (written_plain end last m' r right))) (λ m h.
       exact_token _ (words word_.KwRecover) (says_word word_.KwRecover) end b m r h (λ m h.
       exact_then _ (inner_good recover follows (part_right (word word_.KwRecover) b (part_second list last _ _ p)) m r h ends) (exact_made end span (plain_.Try body recover) s r r refl refl place))))))))))))))
