@@ -6,7 +6,6 @@
 
 mod cast;
 pub mod evaluate;
-pub mod halt;
 pub mod lookup;
 pub mod numbers;
 mod operate;

@@ -15,11 +15,11 @@ use Rattle.c_meaning.specs.Values.{Value, Typed, int, as_int, is_zero}
 use Rattle.c_meaning.specs.Evaluate.{View, Site, value, place}
 use Rattle.c_meaning.specs.States.{State}
 use Rattle.c_meaning.specs.Steps.{Next, Onward, Halted, next, to_do, with_blocks, put_value, malloc, assign, get_char, next_byte, after_byte, put_byte, put_char, branch, go_on, do_statement}
-use Rattle.c_evaluation.specs.declared.halt.Halt.{Halt}
-use Rattle.c_evaluation.specs.declared.halt.Halt.TheVariants.{Stuck, Memory}
+use Rattle.c_cells.specs.declared.halt.Halt.{Halt}
+use Rattle.c_cells.specs.declared.halt.Halt.TheVariants.{Stuck, Memory}
 use Rattle.c_stepper.specs.declared.runner.Runner.{Runner}
 use Rattle.c_stepper.specs.declared.runner.Done.{Done}
-use Rattle.c_evaluation.specs.Halts.{Tells}
+use Rattle.c_cells.specs.Halts.{Tells}
 use Rattle.c_evaluation.specs.Stores.{Stores, Frees, address_stored, freed_of, byte_of_number, byte_number, byte_put, truth_in, chosen, byte_stored, next_number}
 use Rattle.c_stepper.specs.Runners.{Acts, first_of}
 

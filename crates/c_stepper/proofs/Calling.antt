@@ -22,10 +22,10 @@ use Rattle.c_meaning.specs.Steps.{called_cell, called_value, called, target_of, 
 use Rattle.name_tables.specs.Places.{first_from, function_name}
 use Rattle.std.proofs.lemmas.List.{reverse-append, length-reverse}
 use Rattle.std.specs.Result.{IsErrAnd}
-use Rattle.c_evaluation.specs.declared.halt.Halt.{Halt}
-use Rattle.c_evaluation.specs.declared.halt.Halt.TheVariants.{Stuck, Memory}
+use Rattle.c_cells.specs.declared.halt.Halt.{Halt}
+use Rattle.c_cells.specs.declared.halt.Halt.TheVariants.{Stuck, Memory}
 use Rattle.c_evaluation.specs.declared.value.Value as held
-use Rattle.c_evaluation.specs.Halts.{Tells}
+use Rattle.c_cells.specs.Halts.{Tells}
 use Rattle.c_evaluation.specs.Values as rv
 use Rattle.c_evaluation.specs.Values.{values_of, type_in, tree_in}
 use Rattle.name_tables.proofs.Finding.{below}

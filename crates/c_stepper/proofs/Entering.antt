@@ -30,8 +30,8 @@ use Rattle.c_meaning.specs.Steps.{Next, Onward, Halted, next, do_statement, call
 use Rattle.c_stepper.specs.declared.runner.Frame.{Frame}
 use Rattle.c_stepper.specs.declared.runner.Runner.{Runner}
 use Rattle.c_stepper.specs.declared.runner.Done.{Done}
-use Rattle.c_evaluation.specs.declared.halt.Halt.{Halt}
-use Rattle.c_evaluation.specs.declared.halt.Halt.TheVariants.{Stuck, Memory}
+use Rattle.c_cells.specs.declared.halt.Halt.{Halt}
+use Rattle.c_cells.specs.declared.halt.Halt.TheVariants.{Stuck, Memory}
 use Rattle.c_stepper.specs.Spots.{todo_at}
 use Rattle.c_stepper.specs.Runners as r
 use Rattle.c_stepper.specs.Guides.{IsGuide}

@@ -7,7 +7,7 @@ ghost use Rattle.c_stepper.specs.Runners.{state_of, runner_view, body_at, first_
 
 use crate::runner::{Done, Runner, written_text};
 use crate::spot::{at, list_at};
-use c_evaluation::halt::Halt;
+use c_cells::halt::Halt;
 use c_tree::program::CProgram;
 use c_tree::statement::{CStatement, CStatementNode};
 

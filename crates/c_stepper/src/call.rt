@@ -3,7 +3,7 @@ ghost use Rattle.std.specs.Prelude.{◌≡◌, ◌<◌, Some, IfOk, IfSome, leng
 ghost use Rattle.c_meaning.specs.Answer.{Got};
 ghost use Rattle.c_meaning.specs.Evaluate as e;
 ghost use Rattle.c_meaning.specs.Steps as m;
-ghost use Rattle.c_evaluation.specs.Halts.{said, Tells};
+ghost use Rattle.c_cells.specs.Halts.{said, Tells};
 ghost use Rattle.c_evaluation.specs.Scopes.{view_at, site_of, HasRoom};
 ghost use Rattle.c_tree.specs.types.View.{base_of as written_base};
 ghost use Rattle.c_evaluation.specs.Types.{object_of, base_of, place_type_of};
@@ -16,7 +16,7 @@ use c_cells::cell::copied;
 use c_cells::fresh::copy_type;
 use c_cells::memory::{Block, Memory};
 use c_evaluation::evaluate::{place_of, value_of};
-use c_evaluation::halt::Halt;
+use c_cells::halt::Halt;
 use c_evaluation::lookup::{function_place, number_of};
 use c_evaluation::numbers::value_in;
 use c_evaluation::place::Site;

@@ -16,7 +16,7 @@ use crate::spot::Spot;
 use c_cells::Path;
 use c_cells::fresh::fresh_block;
 use c_cells::memory::Memory;
-use c_evaluation::halt::Halt;
+use c_cells::halt::Halt;
 use c_evaluation::scope::Scope;
 use c_evaluation::store::{Store, assigned, found, freed, got, malloced, put, test};
 use c_meaning::StuckKind;

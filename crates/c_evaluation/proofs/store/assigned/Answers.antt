@@ -4,7 +4,7 @@ use Rattle.c_meaning.specs.Steps.{put_value, assign}
 use Rattle.c_evaluation.specs.Values.{value_of}
 use Rattle.c_evaluation.specs.Scopes.{view_at, site_of}
 use Rattle.c_evaluation.proofs.Taking.{no_store, store_with}
-use Rattle.c_evaluation.proofs.store.assigned_stepwise.Goals as goal
+use Rattle.c_evaluation.proofs.store.assigned.Goals as goal
 
 pub returns-in_err-site : goal.returns-in_err-site
 unfolding assign

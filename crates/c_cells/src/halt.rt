@@ -1,6 +1,6 @@
 //! Why a step is not taken.
 ghost use Rattle.std.specs.Prelude.{◌≡◌};
-ghost use Rattle.c_evaluation.specs.declared.halt.Halt.TheVariants.{Stuck, Memory};
+ghost use Rattle.c_cells.specs.declared.halt.Halt.TheVariants.{Stuck, Memory};
 
 use c_meaning::StuckKind;
 use std::alloc::AllocError;

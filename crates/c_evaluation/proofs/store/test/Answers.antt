@@ -5,7 +5,7 @@ use Rattle.c_evaluation.specs.Stores.{truth_in}
 use Rattle.c_evaluation.specs.Values.{value_of}
 use Rattle.c_evaluation.specs.Scopes.{view_at}
 use Rattle.c_evaluation.proofs.Evaluations.{exit, onward_with}
-use Rattle.c_evaluation.proofs.store.test_stepwise.Goals as goal
+use Rattle.c_evaluation.proofs.store.test.Goals as goal
 
 pub returns-in_err-value : goal.returns-in_err-value
 returns-in_err-value c =
