@@ -1,21 +1,15 @@
 -- Numbers that are found at once.
-use Rattle.std.proofs.Common.{◌≡◌, ℕ, List, [], w64, Bool, true, false, Option, Some, None, refl, sym, ap, subst, ◌∙◌}
-use Rattle.std.specs.Prelude.{ℤ, pos, negsuc, IfSome, ◌+ℤ◌, ◌-ℤ◌, ◌*ℤ◌, FitsSigned, int_lt, int_le, not}
+use Rattle.std.proofs.Common.{◌≡◌, ℕ, List, w64, Bool, Option, Some, None, refl, ap, subst, ◌∙◌}
+use Rattle.std.specs.Prelude.{ℤ, pos, IfSome, ◌+ℤ◌, ◌-ℤ◌, ◌*ℤ◌, FitsSigned, int_lt, int_le, not}
 use Rattle.c_tree.specs.Tree as t
 use Rattle.c_tree.specs.declared.operators.CBinary.{CBinary}
 use Rattle.c_tree.specs.declared.operators.CBinary.TheVariants as b
 use Rattle.c_tree.specs.declared.program.CDeclaration.{CDeclaration}
-use Rattle.c_tree.specs.declared.program.CProgram.{CProgram}
-use Rattle.c_meaning.specs.Cells.{Name, Int, Tree, Leaf, Block, Blocks, block_at}
+use Rattle.c_meaning.specs.Cells.{Int, Tree, Leaf}
 use Rattle.c_meaning.specs.Answer.{Answer, Got, ◌>>=◌, when}
-use Rattle.c_meaning.specs.Types.{Plain, Of, alike, type_eq}
-use Rattle.c_meaning.specs.Values.{Value, Typed, int, truth, exact, leaf, int_cell, as_int, joined, binary, on_ints, ordered, equal, cell_eq, converted, is_zero, value_of}
-use Rattle.c_meaning.specs.Evaluate.{View, Named, value, place, read_cell, read_tree, read_place, variable, name_value}
-use Rattle.c_meaning.specs.States.{Names, number_of, numbered, store, store_named, view}
-use Rattle.c_meaning.specs.Steps.{taken, put_root, put_value, assign}
-use Rattle.c_evaluation.specs.Stores.{IsIntBlock, chosen, truth_in}
-use Rattle.c_evaluation.specs.Evaluations.{name_in}
-use Rattle.c_evaluation.proofs.Evaluations.{read_name}
+use Rattle.c_meaning.specs.Types.{alike, type_eq}
+use Rattle.c_meaning.specs.Values.{Value, int, truth, leaf, int_cell, as_int, joined, binary, on_ints, ordered, equal, cell_eq, value_of}
+use Rattle.c_meaning.specs.Evaluate.{View, value, read_cell, read_tree}
 use Rattle.c_evaluation.proofs.Exact.{fits}
 
 abbrev pub Gives : Option ℤ → Answer Value → Type 0

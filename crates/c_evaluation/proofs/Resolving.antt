@@ -1,25 +1,28 @@
 -- Variables and numbers whose names are resolved.
-use Rattle.std.proofs.Common.{◌≡◌, ℕ, ◌+◌, List, [], ◌++◌, length, Option, Some, None, refl, sym, ap, subst, ◌∙◌, arith}
-use Rattle.std.specs.Prelude.{ℤ, pos}
-use Rattle.std.specs.Str.{bytes_eq}
+use Rattle.std.proofs.Common.{◌≡◌, ℕ, ◌+◌, List, ◌++◌, length, Option, Some, None, refl, sym, ap, subst, ◌∙◌, arith}
+use Rattle.std.specs.Prelude.{ℤ, IfSome}
+use Rattle.std.specs.Global.{Box}
 use Rattle.c_tree.specs.Tree as t
 use Rattle.c_tree.specs.Tree.{Expr, Place}
+use Rattle.c_tree.specs.declared.operators.CBinary.{CBinary}
+use Rattle.c_tree.specs.declared.program.CDeclaration.{CDeclaration}
 use Rattle.c_tree.specs.declared.program.CVariable.{CVariable}
 use Rattle.c_tree.specs.declared.program.CProgram.{CProgram}
-use Rattle.c_meaning.specs.Cells.{Name, Int, Block, Blocks, block_at}
-use Rattle.c_meaning.specs.Answer.{Got, ◌>>=◌}
+use Rattle.c_meaning.specs.Cells.{Name, Int, Blocks, block_at}
+use Rattle.c_meaning.specs.Answer.{Got}
 use Rattle.c_meaning.specs.Values.{int, joined}
 use Rattle.c_meaning.specs.Evaluate.{View, value, name_value}
-use Rattle.c_meaning.specs.States.{global_from, number_of, numbered, view}
+use Rattle.c_meaning.specs.States.{global_from, numbered, view}
 use Rattle.c_meaning.specs.Steps.{names_from}
 use Rattle.c_cells.specs.Slots.{int_block}
-use Rattle.c_evaluation.specs.Numbers.{place_number, NamesVariable, IsVariable, Resolves, Evaluates}
+use Rattle.c_evaluation.specs.Numbers.{place_number, NamesVariable, Evaluates}
 use Rattle.c_evaluation.specs.declared.numbers.Variable.{Variable}
 use Rattle.c_evaluation.specs.declared.numbers.Variable.TheVariants as v
+use Rattle.c_evaluation.specs.declared.numbers.Number.{Number}
 use Rattle.c_evaluation.specs.declared.numbers.Number.TheVariants as n
 use Rattle.c_evaluation.proofs.Names.{parameter, local, global}
 use Rattle.c_evaluation.proofs.Evaluations.{read_name}
-use Rattle.c_evaluation.proofs.Found.{read_int}
+use Rattle.c_evaluation.proofs.Found.{read_int, two_given}
 
 module _ (c : CProgram) (x : Name) (ps ls : List CVariable) where
   pub own_parameter : (i : ℕ) → global_from 0 x ps ≡ Some i → NamesVariable c (ps ++ ls) (v.Own i) x
@@ -43,3 +46,18 @@ variable_held blocks base variable z held = λ c reach vars e r.
 pub number_written : (blocks : Blocks) (base : ℕ) (z : ℤ) → Evaluates blocks base (n.Written z) z
 unfolding value
 number_written blocks base z = λ c reach vars e r. ap (value (view c reach (names_from base vars) blocks)) r.1 ∙ ap (λ z. Got (int z)) r.2
+
+pub evaluated_variable : (blocks : Blocks) (base : ℕ) (number : Number) (variable : Variable) (o : Option ℤ) → number ≡ n.Variable variable
+    → IfSome o (λ z. block_at blocks (place_number base variable) ≡ Some (int_block (Int z))) → IfSome o (λ z. Evaluates blocks base number z)
+evaluated_variable blocks base number variable None is h = tt
+evaluated_variable blocks base number variable (Some z) is h = subst (λ m. Evaluates blocks base m z) (sym is) (variable_held blocks base variable z h)
+
+pub evaluated_written : (blocks : Blocks) (base : ℕ) (number : Number) (z z' : ℤ) → number ≡ n.Written z → z ≡ z' → Evaluates blocks base number z'
+evaluated_written blocks base number z z' is same = subst (λ m. Evaluates blocks base m z') (sym is) (subst (λ y. Evaluates blocks base (n.Written z) y) same (number_written blocks base z))
+
+pub evaluated_two : (blocks : Blocks) (base : ℕ) (number : Number) (op : CBinary) (a b : Box Number) (x y : ℤ) (o : Option ℤ) → number ≡ n.Two op a b
+    → Evaluates blocks base a.value x → Evaluates blocks base b.value y → ((ds : List CDeclaration) → IfSome o (λ z. joined ds op (int x) (Got (int y)) ≡ Got (int z))) → IfSome o (λ z. Evaluates blocks base number z)
+evaluated_two blocks base number op a b x y None is l r h = tt
+evaluated_two blocks base number op a b x y (Some z) is l r h = subst (λ m. Evaluates blocks base m z) (sym is) (λ c reach vars e d.
+    let w : View = view c reach (names_from base vars) blocks in
+    ap (value w) d.2 ∙ two_given w op d.0 d.1 x y (Some z) (l c reach vars d.0 d.3) (r c reach vars d.1 d.4) (h w.declared))

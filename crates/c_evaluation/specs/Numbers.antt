@@ -1,5 +1,5 @@
 -- Numbers whose names are resolved.
-use Rattle.std.specs.Prelude.{◌≡◌, ℕ, ◌+◌, ℤ, pos, List, ◌++◌, Option, Some}
+use Rattle.std.specs.Prelude.{◌≡◌, ℕ, ◌+◌, ℤ, pos, List, ◌++◌, Some}
 use Rattle.c_tree.specs.Tree as t
 use Rattle.c_tree.specs.Tree.{Expr, Place}
 use Rattle.c_tree.specs.declared.program.CVariable.{CVariable}
@@ -10,7 +10,7 @@ use Rattle.c_meaning.specs.Values.{int}
 use Rattle.c_meaning.specs.Evaluate.{value}
 use Rattle.c_meaning.specs.States.{number_of, view}
 use Rattle.c_meaning.specs.Steps.{names_from}
-use Rattle.c_evaluation.specs.declared.numbers.Names.{Names}
+use Rattle.c_evaluation.specs.declared.function_names.Names.{Names}
 use Rattle.c_evaluation.specs.declared.numbers.Variable.{Variable}
 use Rattle.c_evaluation.specs.declared.numbers.Variable.TheVariants as v
 use Rattle.c_evaluation.specs.declared.numbers.Number.{Number}

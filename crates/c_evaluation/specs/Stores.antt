@@ -6,7 +6,7 @@ use Rattle.c_meaning.specs.Steps.{put_value, free_value}
 use Rattle.c_tree.specs.Tree.{ObjectType}
 use Rattle.c_tree.specs.declared.program.CDeclaration.{CDeclaration}
 use Rattle.c_meaning.specs.declared.StuckKind.TheVariants as k
-use Rattle.c_meaning.specs.Cells.{Tree, Leaf, Pointer, Block, Blocks, block_at}
+use Rattle.c_meaning.specs.Cells.{Tree, Leaf, Pointer, Blocks}
 use Rattle.c_meaning.specs.Answer.{Answer, Got, Bad, ◌>>=◌, when}
 use Rattle.c_meaning.specs.Types.{Of, alike}
 use Rattle.c_meaning.specs.Values.{Value, Typed, int, as_int, is_zero, byte_of}

@@ -6,30 +6,19 @@ ghost use Rattle.c_tree.specs.declared.program.CDeclaration.{CDeclaration};
 ghost use Rattle.c_meaning.specs.Answer.{Got};
 ghost use Rattle.c_meaning.specs.Cells as c;
 ghost use Rattle.c_meaning.specs.Cells.{block_at};
+ghost use Rattle.c_meaning.specs.States.{global_from};
 ghost use Rattle.c_meaning.specs.Values as w;
-ghost use Rattle.name_tables.specs.Tables.{Fits};
 ghost use Rattle.c_cells.specs.Slots.{int_block};
 ghost use Rattle.c_evaluation.specs.Numbers.{variables_of, place_number as number_placed, NamesVariable, IsVariable, Resolves, Evaluates};
 
 use crate::evaluate::single_name;
+use crate::function_names::Names;
 use crate::lookup::variable_at;
 use c_cells::memory::Memory;
 use c_tree::Name;
 use c_tree::expr::{CExpr, CExprNode, CPlace};
 use c_tree::operators::CBinary;
-use c_tree::program::{CProgram, CVariable};
-use name_tables::Tables;
 use std::alloc::{AllocError, Global};
-
-/// The names that the text of a function sees.
-#[derive(Clone, Copy)]
-pub struct Names<'a> {
-    pub program: &'a CProgram,
-    pub tables: &'a Tables,
-    pub parameters: &'a [CVariable],
-    pub locals: &'a [CVariable],
-    pub ghost fits: { Fits program.now tables.now },
-}
 
 /// A variable: its place among the parameters and locals of its function, or the number of a global.
 #[derive(Clone, Copy, Debug)]
@@ -48,6 +37,12 @@ pub enum Number {
 
 // ---- names
 
+fn global_named(names: &Names, name: &Name) -> Option<usize>
+    ensures { result ≡ global_from 0 name.now names.now.program.now.globals }
+{
+    names.tables.globals.get(name)
+}
+
 /// The variable that a name names.
 #[tactic(auto, using(crate::proofs::Resolving::own_parameter, crate::proofs::Resolving::own_local, crate::proofs::Resolving::own_global))]
 pub fn variable_named(names: &Names, name: &Name) -> Option<Variable>
@@ -57,7 +52,7 @@ pub fn variable_named(names: &Names, name: &Name) -> Option<Variable>
         Some(at) => Some(Variable::Own(at)),
         None => match variable_at(names.locals, name) {
             Some(at) => Some(Variable::Own(names.parameters.len().checked_add(at)?)),
-            None => match names.tables.globals.get(name) {
+            None => match global_named(names, name) {
                 Some(at) => Some(Variable::Global(at)),
                 None => None,
             },

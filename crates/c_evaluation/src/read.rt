@@ -11,7 +11,6 @@ ghost use Rattle.c_evaluation.specs.Scopes.{view_at, root_of, site_of, part_valu
 ghost use Rattle.c_cells.specs.Halts.{said, Tells};
 ghost use Rattle.c_cells.specs.Slots.{found_block, int_cell};
 
-use c_cells::halt::Halt;
 use crate::lookup::{named, number_of, signature};
 use crate::place::{Root, Site};
 use crate::scope::Scope;
@@ -19,6 +18,7 @@ use crate::types::{Layer, Object, PlaceType, ValueType};
 use crate::value::{Content, Value, held, type_of};
 use c_cells::Path;
 use c_cells::cell::{Cell, CellNode, copied};
+use c_cells::halt::Halt;
 use c_cells::slot::{Found, int_cell};
 use c_cells::tree::{CellTree, CellTreeNode};
 use c_meaning::StuckKind;
@@ -159,11 +159,7 @@ fn load_tree<'a>(scope: &Scope<'a>, site: &Site<'a>, tree: &'a CellTree) -> Resu
 
 /// The same in an `int64_t` variable, which has no parts.
 #[tactic(auto, using(crate::proofs::Reading::whole_int, crate::proofs::Reading::no_part_of_int))]
-fn load_int<'a>(
-    scope: &Scope<'a>,
-    site: &Site<'a>,
-    number: Option<i64>,
-) -> Result<Value<'a>, Halt>
+fn load_int<'a>(scope: &Scope<'a>, site: &Site<'a>, number: Option<i64>) -> Result<Value<'a>, Halt>
     ensures { Tells value_of result (tree_value (view_at scope.now) (site_of site.now) (Leaf (int_cell number))) }
 {
     match site.path.as_slice() {
@@ -187,7 +183,7 @@ fn read_int_as<'a>(
 }
 
 /// The value of an `int64_t` variable.
-#[tactic(auto, unfolding(c_meaning::specs::Evaluate::read_tree, c_meaning::specs::Evaluate::read_cell, c_meaning::specs::Values::value_of, c_meaning::specs::Values::leaf, c_meaning::specs::Answer::◌>>=◌))]
+#[tactic(auto, using(crate::proofs::Leaves::the_leaf, crate::proofs::Binary::bind_got), unfolding(c_meaning::specs::Evaluate::read_tree, c_meaning::specs::Values::value_of))]
 fn read_int<'a>(scope: &Scope<'a>, of: Object<'a>, number: Option<i64>) -> Result<Value<'a>, Halt>
     ensures { Tells value_of result (m.read_tree (view_at scope.now) (object_of of.entry) (Leaf (int_cell number))) }
 {

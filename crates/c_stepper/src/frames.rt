@@ -24,8 +24,8 @@ use crate::names::ends_in_number;
 use crate::runner::{Done, Frame, Runner, Target, written_text};
 use crate::spot::Spot;
 use c_cells::fresh::push_fresh;
-use c_cells::memory::Memory;
 use c_cells::halt::Halt;
+use c_cells::memory::Memory;
 use c_evaluation::store::Store;
 use c_evaluation::types::Object;
 use c_tree::expr::{CExpr, CPlace};
@@ -262,7 +262,7 @@ impl Runner {
     {
         let store = self.answer(program, answer)?;
         self.forget_frame(program);
-        put_answer(&mut self.memory, store)?;
+        put_answer(self.alloc, &mut self.memory, store)?;
         self.frame = frame;
         Ok(Done::Going)
     }
