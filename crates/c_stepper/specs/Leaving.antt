@@ -1,7 +1,7 @@
 -- The end of a function.
 use Rattle.std.specs.Prelude.{◌≡◌, ℕ, List, Option, Some, None, Result, Ok, Err}
 use Rattle.c_tree.specs.declared.program.CDeclaration.{CDeclaration}
-use Rattle.c_meaning.specs.Cells.{Tree, Blocks}
+use Rattle.c_meaning.specs.Cells.{Blocks}
 use Rattle.c_meaning.specs.Answer.{Answer, Got, Bad, ◌>>=◌}
 use Rattle.c_meaning.specs.Types.{PlaceType}
 use Rattle.c_meaning.specs.Values.{Value, value_of, as_int}

@@ -5,7 +5,6 @@ use Rattle.c_meaning.specs.Answer.{Got, ◌>>=◌}
 use Rattle.c_meaning.specs.Evaluate as m
 use Rattle.c_meaning.specs.Evaluate.{View}
 use Rattle.c_meaning.specs.States.{view}
-use Rattle.c_meaning.specs.Values as w
 use Rattle.c_meaning.specs.Steps as n
 use Rattle.c_cells.specs.Halts.{Tells}
 use Rattle.c_evaluation.specs.Scopes.{view_at}

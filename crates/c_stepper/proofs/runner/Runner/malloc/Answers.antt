@@ -1,4 +1,4 @@
-use Rattle.std.proofs.Common.{◌≡◌, ◌+◌, ◌∙◌, sym, ap, subst}
+use Rattle.std.proofs.Common.{◌≡◌, ◌+◌, ◌∙◌, sym, ap, subst, false, true}
 use Rattle.c_tree.specs.Tree as t
 use Rattle.c_tree.specs.Tree.{Statement, body_of}
 use Rattle.c_meaning.specs.Answer.{Got}
