@@ -1,5 +1,5 @@
 -- The resolved forms of statements.
-use Rattle.std.proofs.Common.{◌≡◌, List, Option, Some, None, refl, sym, ap, subst, ◌∙◌}
+use Rattle.std.proofs.Common.{◌≡◌, List, Some, refl}
 use Rattle.c_tree.specs.Tree as t
 use Rattle.c_tree.specs.Tree.{Expr, Place, Statement, Body}
 use Rattle.c_tree.specs.declared.program.CVariable.{CVariable}

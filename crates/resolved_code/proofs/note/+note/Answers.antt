@@ -1,8 +1,8 @@
-use Rattle.std.proofs.Common.{◌≡◌, ◌∙◌, sym, ap, subst, arith}
+use Rattle.std.proofs.Common.{◌≡◌, sym, subst, arith}
 use Rattle.c_tree.specs.Tree as m
 use Rattle.c_tree.specs.Tree.{Statement, body_of}
 use Rattle.c_evaluation.specs.Numbers.{variables_of}
-use Rattle.resolved_code.specs.Codes.{Inner, Noted, NotedList, Extends}
+use Rattle.resolved_code.specs.Codes.{Inner}
 use Rattle.resolved_code.proofs.Noting.{noted_body, body_more, next_node, all_noted, smaller, extends_twice}
 use Rattle.resolved_code.proofs.note.+note.Goals as goal
 
@@ -51,4 +51,4 @@ note_list-loop-first-preserved t c = record {
 
 pub note_list-returns-clause-noted : goal.note_list-returns-clause-noted
 note_list-returns-clause-noted t c =
-    all_noted c.args.names.now.program.now (variables_of c.args.names.now) c.args.list.now c.loop-first.rest.now c.loop-first.nodes.items _ c.loop-first.own.items _ c.loop-first.invariant.list c.in_default.ensures.cases c.in_ok-append.ensures.items c.len-start.ensures
+    all_noted c.args.names.now.program.now (variables_of c.args.names.now) c.args.list.now c.loop-first.rest.now c.loop-first.nodes.items _ c.loop-first.own.items _ c.loop-first.invariant.list c.in_default.ensures.cases c.in_ok-append.ensures.items (omega (arith, c.len-start.ensures, c.loop-first.nodes.ok))
