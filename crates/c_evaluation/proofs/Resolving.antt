@@ -1,6 +1,6 @@
 -- Variables and numbers whose names are resolved.
-use Rattle.std.proofs.Common.{◌≡◌, ℕ, ◌+◌, List, ◌++◌, length, Option, Some, None, refl, sym, ap, subst, ◌∙◌, arith}
-use Rattle.std.specs.Prelude.{ℤ, IfSome}
+use Rattle.std.proofs.Common.{◌≡◌, ℕ, ◌+◌, List, [], ◌++◌, length, Option, Some, None, refl, sym, ap, subst, ◌∙◌, arith}
+use Rattle.std.specs.Prelude.{ℤ, IfSome, not}
 use Rattle.std.specs.Global.{Box}
 use Rattle.c_tree.specs.Tree as t
 use Rattle.c_tree.specs.Tree.{Expr, Place}
@@ -8,14 +8,17 @@ use Rattle.c_tree.specs.declared.operators.CBinary.{CBinary}
 use Rattle.c_tree.specs.declared.program.CDeclaration.{CDeclaration}
 use Rattle.c_tree.specs.declared.program.CVariable.{CVariable}
 use Rattle.c_tree.specs.declared.program.CProgram.{CProgram}
-use Rattle.c_meaning.specs.Cells.{Name, Int, Blocks, block_at}
-use Rattle.c_meaning.specs.Answer.{Got}
-use Rattle.c_meaning.specs.Values.{int, joined}
-use Rattle.c_meaning.specs.Evaluate.{View, value, name_value}
-use Rattle.c_meaning.specs.States.{global_from, numbered, view}
-use Rattle.c_meaning.specs.Steps.{names_from}
-use Rattle.c_cells.specs.Slots.{int_block}
-use Rattle.c_evaluation.specs.Numbers.{place_number, NamesVariable, Evaluates}
+use Rattle.c_meaning.specs.Cells.{Name, Int, Leaf, Block, Blocks, block_at, joined_option}
+use Rattle.c_meaning.specs.Answer.{Got, ◌>>=◌, when}
+use Rattle.c_meaning.specs.Types.{Plain, alike, type_eq}
+use Rattle.c_meaning.specs.Values.{int, joined, leaf, int_cell, as_int, converted, is_zero}
+use Rattle.c_meaning.specs.Evaluate.{View, Named, value, place, variable, name_value}
+use Rattle.c_meaning.specs.States.{Names, global_from, number_of, numbered, store, store_named, view}
+use Rattle.c_meaning.specs.Steps.{names_from, taken, put_root, put_value, assign}
+use Rattle.c_cells.specs.Slots.{int_block, HoldsInt}
+use Rattle.c_evaluation.specs.Numbers.{place_number, NamesVariable, Evaluates, Puts, Chooses}
+use Rattle.c_evaluation.specs.Stores.{chosen, truth_in}
+use Rattle.c_evaluation.specs.Evaluations.{name_in}
 use Rattle.c_evaluation.specs.declared.numbers.Variable.{Variable}
 use Rattle.c_evaluation.specs.declared.numbers.Variable.TheVariants as v
 use Rattle.c_evaluation.specs.declared.numbers.Number.{Number}
@@ -61,3 +64,33 @@ evaluated_two blocks base number op a b x y None is l r h = tt
 evaluated_two blocks base number op a b x y (Some z) is l r h = subst (λ m. Evaluates blocks base m z) (sym is) (λ c reach vars e d.
     let w : View = view c reach (names_from base vars) blocks in
     ap (value w) d.2 ∙ two_given w op d.0 d.1 x y (Some z) (l c reach vars d.0 d.3) (r c reach vars d.1 d.4) (h w.declared))
+
+-- ---- statements
+
+test_of : (v : View) (a : t.Expr) (z : ℤ) → value v a ≡ Got (int z) → chosen v a ≡ Got (not (is_zero z))
+unfolding ◌>>=◌ as_int leaf int_cell int
+test_of v a z h = ap (λ r. r >>= truth_in) h
+
+stored : (c : CProgram) (reach : ℕ) (names : Names) (blocks : Blocks) (at : t.Place) (a : t.Expr) (x : Name) (n : ℕ) (b : Block) (z : ℤ)
+    → name_in at ≡ Some x → number_of c names x ≡ Some n → block_at blocks n ≡ Some b → b.of ≡ t.Int → value (view c reach names blocks) a ≡ Got (int z)
+    → store blocks n [] (Leaf (Int z)) ≡ assign (view c reach names blocks) at a
+unfolding assign place variable view numbered put_value taken converted alike type_eq when put_root store_named int ◌>>=◌
+stored c reach names blocks (t.Variable y) a x n b z is there here int_ h =
+    let same : y ≡ x = cc in
+    let v = view c reach names blocks in
+    let number : number_of c names y ≡ Some n = ap (number_of c names) same ∙ there in
+    let named : v.named y ≡ Some b = ap (numbered blocks) number ∙ here in
+    sym (ap (λ o. variable v y o >>= (λ site. value v a >>= put_value v site)) named ∙ ap (λ r. r >>= put_value v (record { root = Named y; path = []; of = Plain b.of })) h
+    ∙ ap (λ of. taken c.declarations (Plain of) (int z) >>= put_root v (Named y) []) int_ ∙ ap (λ o. store_named blocks o [] (Leaf (Int z))) number)
+stored c reach names blocks (t.Pointee e) a x n b z is there here int_ h = cc
+stored c reach names blocks (t.Member e m) a x n b z is there here int_ h = cc
+stored c reach names blocks (t.Index e i) a x n b z is there here int_ h = cc
+
+pub put : (old new : Blocks) (base : ℕ) (variable : Variable) (number : Number) (n : ℕ) (z : ℤ) → n ≡ place_number base variable → Evaluates old base number z → HoldsInt old n → store old n [] (Leaf (Int z)) ≡ Got new → Puts old new base variable number
+unfolding block_at joined_option
+put old new base variable number n z place found held done = λ c reach vars at e is r.
+    let there : number_of c (names_from base vars) is.0 ≡ Some n = is.2 base ∙ ap Some (sym place) in
+    sym (stored c reach (names_from base vars) old at e is.0 n (int_block held.0) z (ap name_in is.1) there (ap joined_option held.1) refl (found c reach vars e r)) ∙ done
+
+pub chooses : (blocks : Blocks) (base : ℕ) (number : Number) (z : ℤ) → Evaluates blocks base number z → Chooses blocks base number (not (is_zero z))
+chooses blocks base number z found = λ c reach vars e r. test_of (view c reach (names_from base vars) blocks) e z (found c reach vars e r)

@@ -1,5 +1,5 @@
 -- Numbers whose names are resolved.
-use Rattle.std.specs.Prelude.{◌≡◌, ℕ, ◌+◌, ℤ, pos, List, ◌++◌, Some}
+use Rattle.std.specs.Prelude.{◌≡◌, Bool, ℕ, ◌+◌, ℤ, pos, List, ◌++◌, Some}
 use Rattle.c_tree.specs.Tree as t
 use Rattle.c_tree.specs.Tree.{Expr, Place}
 use Rattle.c_tree.specs.declared.program.CVariable.{CVariable}
@@ -9,7 +9,8 @@ use Rattle.c_meaning.specs.Answer.{Got}
 use Rattle.c_meaning.specs.Values.{int}
 use Rattle.c_meaning.specs.Evaluate.{value}
 use Rattle.c_meaning.specs.States.{number_of, view}
-use Rattle.c_meaning.specs.Steps.{names_from}
+use Rattle.c_meaning.specs.Steps.{names_from, assign}
+use Rattle.c_evaluation.specs.Stores.{chosen}
 use Rattle.c_evaluation.specs.declared.function_names.Names.{Names}
 use Rattle.c_evaluation.specs.declared.numbers.Variable.{Variable}
 use Rattle.c_evaluation.specs.declared.numbers.Variable.TheVariants as v
@@ -43,3 +44,12 @@ Resolves c vars (n.Two' op p a q b) e = (x : Expr) × (y : Expr) × (e ≡ t.Bin
 abbrev pub Evaluates : Blocks → ℕ → Number → ℤ → Type 0
 Evaluates blocks base number z = (c : CProgram) (reach : ℕ) (vars : List CVariable) (e : Expr) → Resolves c vars number e
     → value (view c reach (names_from base vars) blocks) e ≡ Got (int z)
+
+-- with these blocks before and after, each place that the variable is gets the value of each expression that the number is
+abbrev pub Puts : (old new : Blocks) → ℕ → Variable → Number → Type 0
+Puts old new base variable number = (c : CProgram) (reach : ℕ) (vars : List CVariable) (at : Place) (e : Expr) → IsVariable c vars variable at → Resolves c vars number e
+    → assign (view c reach (names_from base vars) old) at e ≡ Got new
+
+-- and a test of each such expression says this
+abbrev pub Chooses : Blocks → ℕ → Number → Bool → Type 0
+Chooses blocks base number b = (c : CProgram) (reach : ℕ) (vars : List CVariable) (e : Expr) → Resolves c vars number e → chosen (view c reach (names_from base vars) blocks) e ≡ Got b

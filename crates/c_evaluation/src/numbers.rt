@@ -1,6 +1,6 @@
 //! Numbers of `int64_t` whose names are resolved before the program runs. Where such a number is
 //! not found, the expression is evaluated step by step.
-ghost use Rattle.std.specs.Prelude.{◌≡◌, List, Some, pos, IfSome, IfOk};
+ghost use Rattle.std.specs.Prelude.{◌≡◌, List, Some, true, false, pos, IfSome, IfOk};
 ghost use Rattle.c_tree.specs.Tree as t;
 ghost use Rattle.c_tree.specs.declared.program.CDeclaration.{CDeclaration};
 ghost use Rattle.c_meaning.specs.Answer.{Got};
@@ -9,11 +9,12 @@ ghost use Rattle.c_meaning.specs.Cells.{block_at};
 ghost use Rattle.c_meaning.specs.States.{global_from};
 ghost use Rattle.c_meaning.specs.Values as w;
 ghost use Rattle.c_cells.specs.Slots.{int_block};
-ghost use Rattle.c_evaluation.specs.Numbers.{variables_of, place_number as number_placed, NamesVariable, IsVariable, Resolves, Evaluates};
+ghost use Rattle.c_evaluation.specs.Numbers.{variables_of, place_number as number_placed, NamesVariable, IsVariable, Resolves, Evaluates, Puts, Chooses};
 
 use crate::evaluate::single_name;
 use crate::function_names::Names;
 use crate::lookup::variable_at;
+use crate::operate::is_zero;
 use c_cells::memory::Memory;
 use c_tree::Name;
 use c_tree::expr::{CExpr, CExprNode, CPlace};
@@ -157,6 +158,31 @@ pub fn evaluated(memory: &Memory, base: usize, number: &Number) -> Option<i64>
         }
     }
 }
+/// `variable = number;`, where both are found so. Else nothing is done, and the answer is false.
+#[tactic(auto, using(crate::proofs::Resolving::put))]
+pub fn put_number(memory: &mut Memory, base: usize, variable: Variable, number: &Number) -> bool
+    ensures stored { result ≡ true → Puts memory.old memory.new base variable number.now }
+    ensures same { result ≡ false → memory.new ≡ memory.old }
+{
+    match (
+        place_number(base, variable),
+        evaluated(memory, base, number),
+    ) {
+        (Some(place), Some(z)) => memory.set_number(place, z),
+        _ => false,
+    }
+}
+
+/// What a test of a number chooses, where the number is found.
+pub fn tested(memory: &Memory, base: usize, number: &Number) -> Option<bool>
+    ensures { IfSome result (λ b. Chooses memory.now base number.now b) }
+{
+    match evaluated(memory, base, number) {
+        Some(z) => Some(!is_zero(z)),
+        None => None,
+    }
+}
+
 /// 1 or 0.
 #[tactic(auto, unfolding(c_meaning::specs::Values::truth))]
 fn one_if(holds: bool) -> Option<i64>

@@ -12,12 +12,16 @@ use Rattle.resolved_code.specs.declared.code.Node.{Node}
 use Rattle.resolved_code.specs.declared.code.Code.{Code}
 use Rattle.resolved_code.specs.declared.note.ProgramCode.{ProgramCode}
 
--- the test of an `if` or a `while`
+-- the test of a `while`, or of an `if` without `else`
 abbrev pub test_of : Statement → Option Expr
 test_of (t.If e a) = Some e
-test_of (t.IfElse e a b) = Some e
 test_of (t.While e a) = Some e
 test_of _ = None
+
+-- the test of an `if` with `else`
+abbrev pub choice_of : Statement → Option Expr
+choice_of (t.IfElse e a b) = Some e
+choice_of _ = None
 
 -- ---- one statement, in a text with these variables
 
@@ -26,14 +30,20 @@ module _ (c : CProgram) (vars : List CVariable) where
   abbrev pub IsResolved : Resolved → Statement → Type 0
   IsResolved (r.Store variable number) s = (at : Place) × (e : Expr) × (s ≡ t.Assign at e) × IsVariable c vars variable at × Resolves c vars number e
   IsResolved (r.Test number) s = (e : Expr) × (test_of s ≡ Some e) × Resolves c vars number e
+  IsResolved (r.Choose number) s = (e : Expr) × (choice_of s ≡ Some e) × Resolves c vars number e
   IsResolved (r.Give number) s = (e : Expr) × (s ≡ t.Return (Some e)) × Resolves c vars number e
   IsResolved r.Other s = Unit {0}
 
-  -- the resolved form of a test
+  -- the resolved forms of tests
   abbrev pub IsTest : Resolved → Expr → Type 0
   IsTest (r.Test number) e = Resolves c vars number e
   IsTest r.Other e = Unit {0}
   IsTest _ e = ⊥
+
+  abbrev pub IsChoice : Resolved → Expr → Type 0
+  IsChoice (r.Choose number) e = Resolves c vars number e
+  IsChoice r.Other e = Unit {0}
+  IsChoice _ e = ⊥
 
   -- ---- lists
 

@@ -7,8 +7,10 @@ use c_evaluation::numbers::{Number, Variable};
 pub enum Resolved {
     /// `variable = number;`
     Store(Variable, Number),
-    /// The test of an `if` or a `while`.
+    /// The test of a `while`, or of an `if` without `else`.
     Test(Number),
+    /// The test of an `if` with `else`.
+    Choose(Number),
     /// `return number;`
     Give(Number),
     /// Any other statement.

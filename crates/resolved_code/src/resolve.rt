@@ -2,7 +2,7 @@
 ghost use Rattle.std.specs.Prelude.{IfOk};
 ghost use Rattle.c_tree.specs.Tree as t;
 ghost use Rattle.c_evaluation.specs.Numbers.{variables_of};
-ghost use Rattle.resolved_code.specs.Codes.{IsResolved, IsTest};
+ghost use Rattle.resolved_code.specs.Codes.{IsResolved, IsTest, IsChoice};
 
 use crate::code::Resolved;
 use c_evaluation::function_names::Names;
@@ -30,12 +30,22 @@ fn store_resolved(
     }
 }
 
-/// A test.
+/// The test of a `while`, or of an `if` without `else`.
 fn test_resolved(alloc: Global, names: &Names, e: &CExpr) -> Result<Resolved, AllocError>
     ensures { IfOk result (λ r. IsTest names.now.program.now (variables_of names.now) r e.now) }
 {
     match resolved(alloc, names, e)? {
         Some(number) => Ok(Resolved::Test(number)),
+        None => Ok(Resolved::Other),
+    }
+}
+
+/// The test of an `if` with `else`.
+fn choice_resolved(alloc: Global, names: &Names, e: &CExpr) -> Result<Resolved, AllocError>
+    ensures { IfOk result (λ r. IsChoice names.now.program.now (variables_of names.now) r e.now) }
+{
+    match resolved(alloc, names, e)? {
+        Some(number) => Ok(Resolved::Choose(number)),
         None => Ok(Resolved::Other),
     }
 }
@@ -66,7 +76,7 @@ pub fn statement_resolved(
     match &statement.node {
         CStatementNode::Assign(place, e) => store_resolved(alloc, names, place, e),
         CStatementNode::If(e, _) => test_resolved(alloc, names, e),
-        CStatementNode::IfElse(e, _, _) => test_resolved(alloc, names, e),
+        CStatementNode::IfElse(e, _, _) => choice_resolved(alloc, names, e),
         CStatementNode::While(e, _) => test_resolved(alloc, names, e),
         CStatementNode::Return(e) => give_resolved(alloc, names, e),
         _ => Ok(Resolved::Other),
