@@ -1,6 +1,7 @@
 -- The code of the statement that comes next.
-use Rattle.std.proofs.Common.{◌≡◌, ℕ, zero, suc, ◌+◌, List, [], ◌∷◌, ◌++◌, Bool, true, false, Option, Some, None, refl, sym, ap, subst, ◌∙◌}
-use Rattle.std.specs.Prelude.{slice_get, if◌then◌else◌}
+use Rattle.std.proofs.Common.{◌≡◌, ℕ, zero, suc, ◌+◌, List, [], ◌∷◌, ◌++◌, Bool, true, false, Option, Some, None, length, Bor, refl, sym, ap, subst, ◌∙◌, arith}
+use Rattle.std.specs.Prelude.{slice_get, if◌then◌else◌, IfSome}
+use Rattle.std.specs.Option.{option_copied}
 use Rattle.c_tree.specs.Tree as t
 use Rattle.c_tree.specs.Tree.{Statement}
 use Rattle.c_tree.specs.declared.program.CVariable.{CVariable}
@@ -10,7 +11,7 @@ use Rattle.label_ways.specs.declared.level.Level.{Level}
 use Rattle.resolved_code.specs.declared.code.Code.{Code}
 use Rattle.resolved_code.specs.declared.code.Node.{Node}
 use Rattle.resolved_code.specs.declared.note.ProgramCode.{ProgramCode}
-use Rattle.resolved_code.specs.Codes.{IsResolved, IsNode, NotedList, IsCode, AreCodes, IsProgramCode}
+use Rattle.resolved_code.specs.Codes.{IsResolved, IsNode, NotedList, IsCode, AreCodes}
 use Rattle.resolved_code.proofs.Noting.{noted_list}
 use Rattle.c_stepper.specs.declared.guide.Guide.{Guide}
 use Rattle.c_stepper.specs.declared.runner.Frame.{Frame}
@@ -84,3 +85,17 @@ arrives code outer rest start at n w none node = λ c vars body s h next.
     let m = here.1 at s (ap (λ (l : List Statement). slice_get l at) list ∙ next) in
     let same : m.0 ≡ n = let both : Some m.0 ≡ Some n = sym m.1 ∙ node in cc in
     subst (λ (k : Node). IsResolved c vars k.resolved s) same m.2.resolved
+
+-- ---- the same where something is found
+
+pub code_found : (all : ProgramCode) (function : Option ℕ) (n : ℕ) (o : Option (Bor Code)) → function ≡ Some n → option_copied o ≡ slice_get all.functions.items n → IfSome o (λ found. IsCodeOf all function found.now)
+code_found all function n None is h = tt
+code_found all function n (Some code) is h = subst (λ (f : Option ℕ). IsCodeOf all f code.now) (sym is) (function_code all n code.now (sym h))
+
+no_levels : (rest : List Level) → length rest ≡ 0 → rest ≡ []
+no_levels [] h = refl
+no_levels (l ∷ rest) h = absurd (omega (arith, h))
+
+pub node_found : (code : Code) (outer rest : List Level) (start at : ℕ) (o : Option (Bor Node)) → Walks code outer start rest → length rest ≡ 0 → IfSome o (λ node. slice_get code.nodes.items (start + at) ≡ Some node.now) → IfSome o (λ node. IsNodeAt code outer at node.now)
+node_found code outer rest start at None w none h = tt
+node_found code outer rest start at (Some node) w none h = arrives code outer rest start at node.now w (no_levels rest none) h

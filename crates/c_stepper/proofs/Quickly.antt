@@ -1,19 +1,18 @@
 -- What quick steps do.
-use Rattle.std.proofs.Common.{◌≡◌, ℕ, ◌+◌, List, [], ◌∷◌, ◌++◌, Bool, true, false, Option, Some, None, refl, sym, ap, subst, ◌∙◌}
-use Rattle.std.specs.Prelude.{slice_get, not, if◌then◌else◌}
+use Rattle.std.proofs.Common.{◌≡◌, ℕ, ◌+◌, List, [], ◌∷◌, ◌++◌, Bool, true, false, Some, Result, Ok, Err, refl, sym, ap, subst, ◌∙◌}
+use Rattle.std.specs.Prelude.{not, if◌then◌else◌, IfOk}
 use Rattle.c_tree.specs.Tree as t
 use Rattle.c_tree.specs.Tree.{Expr, Statement, Body}
-use Rattle.c_tree.specs.declared.program.CVariable.{CVariable}
 use Rattle.c_tree.specs.declared.program.CProgram.{CProgram}
 use Rattle.c_meaning.specs.Cells.{Blocks}
 use Rattle.c_meaning.specs.Answer.{Got}
 use Rattle.c_meaning.specs.Evaluate.{View}
 use Rattle.c_meaning.specs.States.{State, view}
 use Rattle.c_meaning.specs.Todo.{onto}
-use Rattle.c_meaning.specs.Steps.{Next, Onward, do_statement, names_from, to_do, branch, go_on}
+use Rattle.c_meaning.specs.Steps.{Onward, do_statement, names_from, to_do, branch, go_on}
 use Rattle.c_evaluation.specs.declared.numbers.Number.{Number}
 use Rattle.c_evaluation.specs.declared.numbers.Variable.{Variable}
-use Rattle.c_evaluation.specs.Numbers.{Puts, Chooses}
+use Rattle.c_evaluation.specs.Numbers.{Puts}
 use Rattle.c_evaluation.specs.Stores.{chosen}
 use Rattle.label_ways.specs.declared.level.Level.{Level}
 use Rattle.resolved_code.specs.declared.code.Node.{Node}
@@ -22,9 +21,11 @@ use Rattle.resolved_code.specs.declared.code.Resolved.TheVariants as r
 use Rattle.resolved_code.specs.Codes.{IsResolved, test_of, choice_of}
 use Rattle.c_stepper.specs.declared.guide.Guide.{Guide}
 use Rattle.c_stepper.specs.declared.runner.Frame.{Frame}
-use Rattle.c_stepper.specs.Spots.{list_in, todo_at, todo_of}
-use Rattle.c_stepper.specs.Runners.{body_at, variables_at, statement_at}
-use Rattle.c_stepper.specs.Quick.{IsHere, GoesOn, Enters, Led, TestGoes, ChoiceGoes, DoesSo, QuickStep}
+use Rattle.c_stepper.specs.declared.runner.Runner.{Runner}
+use Rattle.c_stepper.specs.Guides.{IsGuide}
+use Rattle.c_stepper.specs.Spots.{todo_at, todo_of}
+use Rattle.c_stepper.specs.Runners.{body_at, variables_at, statement_at, state_of, runner_view}
+use Rattle.c_stepper.specs.Quick.{IsHere, GoesOn, Enters, Led, TestGoes, ChoiceGoes, QuickStep}
 use Rattle.c_stepper.proofs.Acting.{stored, go}
 use Rattle.c_stepper.proofs.Todo.{enter_if, enter_while, enter_first, enter_second}
 
@@ -132,3 +133,20 @@ choice_step guide f f' blocks node number here is goes = record {
       let form = subst (λ (q : Resolved). IsResolved c (variables_at c f) q s) is (here c s h next) in
       chose c f f' st blocks s form.0 goes.0 form.1 next same (goes.1 c f.reach (variables_at c f) form.0 form.2) goes.2;
 }
+
+pub tests : {X : Type 0} (result : Result Bool X) (guide : Guide) (f f' : Frame) (blocks : Blocks) (node : Node) (number : Number) → IsHere guide f node → node.resolved ≡ r.Test number
+    → IfOk result (λ done. done ≡ true → TestGoes blocks number f f') → IfOk result (λ done. done ≡ true → QuickStep guide f f' blocks blocks)
+tests (Ok done) guide f f' blocks node number here is h = λ t. test_step guide f f' blocks node number here is (h t)
+tests (Err e) guide f f' blocks node number here is h = tt
+
+pub choices : {X : Type 0} (result : Result Bool X) (guide : Guide) (f f' : Frame) (blocks : Blocks) (node : Node) (number : Number) → IsHere guide f node → node.resolved ≡ r.Choose number
+    → IfOk result (λ done. done ≡ true → ChoiceGoes blocks number f f') → IfOk result (λ done. done ≡ true → QuickStep guide f f' blocks blocks)
+choices (Ok done) guide f f' blocks node number here is h = λ t. choice_step guide f f' blocks node number here is (h t)
+choices (Err e) guide f f' blocks node number here is h = tt
+
+pub quick_acts : (c : CProgram) (old : Runner) (f' : Frame) (blocks' : Blocks) (s : Statement) (input output calls : List ℕ) → IsGuide c old.guide → statement_at c old.frame ≡ Some s → QuickStep old.guide old.frame f' old.memory blocks'
+    → Onward (state_of c (record old { frame = f'; memory = blocks' }) input output calls)
+    ≡ do_statement c (runner_view c old) (state_of c old input output calls) (todo_at (body_at c old.frame) old.frame.spot.outer.items (old.frame.spot.at + 1)) s
+unfolding to_do
+quick_acts c old f' blocks' s input output calls guide here q =
+    ap (λ (f : Frame). Onward (state_of c (record old { frame = f; memory = blocks' }) input output calls)) q.rest ∙ sym (q.step c s (state_of c old input output calls) guide here refl)

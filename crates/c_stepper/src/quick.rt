@@ -24,7 +24,6 @@ fn code_in(codes: &[Code], number: usize) -> Option<&Code>
 }
 
 /// The code of the function with a number, or of `main`.
-#[tactic(auto, using(crate::proofs::Coding::main_code, crate::proofs::Coding::function_code))]
 fn code_of(code: &ProgramCode, function: Option<usize>) -> Option<&Code>
     ensures { IfSome result (λ found. IsCodeOf code.now function found.now) }
 {
@@ -139,12 +138,7 @@ fn choose(frame: &mut Frame, memory: &Memory, number: &Number) -> Result<bool, A
 
 /// The statement that comes next, where numbers alone say what it does. Where it is not done so,
 /// nothing changes, and the answer is false.
-#[tactic(auto, using(crate::proofs::Quickly::store_step, crate::proofs::Quickly::test_step, crate::proofs::Quickly::choice_step))]
-pub fn quick(
-    frame: &mut Frame,
-    memory: &mut Memory,
-    guide: &Guide,
-) -> Result<bool, AllocError>
+pub fn quick(frame: &mut Frame, memory: &mut Memory, guide: &Guide) -> Result<bool, AllocError>
     requires small { frame.old.spot.at + 1 < 2 ^ 64 }
     ensures steps { IfOk result (λ done. done ≡ true → QuickStep guide.now frame.old frame.new memory.old memory.new) }
     ensures same { IfOk result (λ done. done ≡ false → (frame.new ≡ frame.old) × (memory.new ≡ memory.old)) }
