@@ -1,13 +1,14 @@
 -- From the parser of expressions to what its answers mean.
-use Rattle.std.proofs.Common.{ℕ, List, [], arith}
+use Rattle.std.proofs.Common.{◌≡◌, ℕ, List, [], Ok, arith}
 use Rattle.p2c_text.specs.declared.dialect.Dialect.{Dialect}
 use Rattle.p2c_text.specs.declared.place.Span.{Span}
 use Rattle.pascal_tree.specs.declared.expressions.Expr.{Expr}
 use Rattle.expr_parser.specs.Tokens.{Placed, plain}
+use Rattle.expr_parser.specs.Layout.{IsWritten}
 use Rattle.expr_parser.specs.Writing.{write_expr}
 use Rattle.expr_parser.specs.Grammar.{AreTokens, formed_expr}
 use Rattle.expr_parser.specs.Expressions.{expr}
-use Rattle.expr_parser.specs.Laws.{ReadIsLongest, UnexpectedIsAfter, TooDeepIsDeep}
+use Rattle.expr_parser.specs.Laws.{ReadIsLongest, UnexpectedIsAfter, TooDeepIsDeep, TreeIsUnique, LongestIsRead}
 use Rattle.expr_parser.proofs.Layouts.{spell}
 use Rattle.expr_parser.proofs.Followed.{Until, Along, Followed}
 use Rattle.expr_parser.proofs.FollowedParts.{Part}
@@ -18,6 +19,8 @@ use Rattle.expr_parser.proofs.Spots.{Answer, Reads}
 use Rattle.expr_parser.proofs.SoundFactors.{expr_sound}
 use Rattle.expr_parser.proofs.Longest as longest
 use Rattle.expr_parser.proofs.Longest.{first_spot, first_hole}
+use Rattle.expr_parser.proofs.ExactFactors.{expr_exact}
+use Rattle.expr_parser.proofs.Unique as unique
 
 pub sound : (d : Dialect) (end : Span) (levels outer : ℕ) (from : List Placed) → AreTokens d (plain from)
     → Answer d write_expr (formed_expr d) end outer levels from (Reads d write_expr (formed_expr d) end outer levels from write_expr (formed_expr d) levels from) (expr d end levels from)
@@ -35,3 +38,13 @@ unexpected_is_after d end levels left from known is = longest.unexpected_is_afte
 
 pub too_deep_is_deep : TooDeepIsDeep
 too_deep_is_deep d end outer levels left from known is = longest.too_deep_is_deep d write_expr (formed_expr d) end levels (expr d end levels) (sound d end levels) (follows d end levels) outer left from known is
+
+pub exact : (d : Dialect) (end : Span) (levels : ℕ) (e : Expr) → Part (Unit {0}) levels (write_expr e) (formed_expr d e) → (s : List Placed) → IsWritten end (write_expr e) s [] → expr d end levels s ≡ Ok (e, [])
+exact d end levels e part s h = expr_exact d end levels e part s [] h nothing_ends
+
+pub tree_is_unique : TreeIsUnique
+tree_is_unique d end m n a b from rest h k = unique.derived_is_unique d write_expr (formed_expr d) (expr d) (exact d) end m n a b from rest h k
+
+pub longest_is_read : LongestIsRead
+longest_is_read d end levels from run rest e known longest tree =
+    unique.longest_is_read d write_expr (formed_expr d) (expr d) (exact d) end levels (sound d end levels) (follows d end levels) from run rest e known longest tree

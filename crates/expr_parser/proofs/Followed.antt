@@ -58,6 +58,10 @@ follow_pure x h = meets x _ h
 
 -- ---- a token of the text
 
+-- each token that is this one says so
+abbrev pub Says : {A : Type 0} → Class Placed A → Token → A → Type 0
+Says class x a = (t : Placed) → t.token ≡ x → class t ≡ Some a
+
 -- each token that is this one is of the class
 abbrev pub Accepts : {A : Type 0} → Class Placed A → Token → Type 0
 Accepts {A} class x = (t : Placed) → t.token ≡ x → (a : A) × (class t ≡ Some a)

@@ -33,7 +33,7 @@ use Rattle.expr_parser.proofs.ConstantShrinks.{unsigned_shrinks, constant_shrink
 
 -- ---- labels
 
-no_name : (d : Dialect) → (has_named_labels d && false) ≡ false
+pub no_name : (d : Dialect) → (has_named_labels d && false) ≡ false
 no_name dialect.Iso = refl
 no_name dialect.Turbo = refl
 no_name dialect.Ucsd = refl
@@ -42,7 +42,7 @@ no_name dialect.Hp = refl
 pub looks_named : (d : Dialect) → Looks (begins_named_label d) (λ x. has_named_labels d && on_name x)
 looks_named d = record { none = ap (λ b. has_named_labels d && b) looks_name.none ∙ no_name d; some = λ t s. ap (λ b. has_named_labels d && b) (looks_name.some t s) }
 
-and_true : (b : Bool) → IsTrue b → (b && true) ≡ true
+pub and_true : (b : Bool) → IsTrue b → (b && true) ≡ true
 and_true true h = refl
 and_true false h = h
 
@@ -84,7 +84,7 @@ module _ (n : Until) (W : Type 0) (end : Span) where
 
 -- ---- labels of a `case`
 
-no_range : (d : Dialect) → (has_label_ranges d && false) ≡ false
+pub no_range : (d : Dialect) → (has_label_ranges d && false) ≡ false
 no_range dialect.Iso = refl
 no_range dialect.Turbo = refl
 no_range dialect.Ucsd = refl
@@ -97,11 +97,11 @@ looks_range d = record { none = ap (λ b. has_label_ranges d && b) (looks_symbol
 abbrev pub LabelEnds : List Token → Type 0
 LabelEnds w = on_first (on_symbol mark.DotDot) w ≡ false
 
-range_ends : (d : Dialect) (w : List Token) → LabelEnds w → on_first (λ x. has_label_ranges d && on_symbol mark.DotDot x) w ≡ false
+pub range_ends : (d : Dialect) (w : List Token) → LabelEnds w → on_first (λ x. has_label_ranges d && on_symbol mark.DotDot x) w ≡ false
 range_ends d [] e = refl
 range_ends d (x ∷ w) e = ap (λ b. has_label_ranges d && b) e ∙ no_range d
 
-comma_ends : (w : List Token) → LabelEnds (Symbol mark.Comma ∷ w)
+pub comma_ends : (w : List Token) → LabelEnds (Symbol mark.Comma ∷ w)
 unfolding same_symbol
 comma_ends w = refl
 

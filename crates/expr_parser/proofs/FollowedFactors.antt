@@ -35,29 +35,35 @@ use Rattle.expr_parser.proofs.FollowedPlaces.{optional_none, optional_some, plac
 use Rattle.expr_parser.proofs.FollowedTerms.{expr_by_followed}
 use Rattle.expr_parser.proofs.Lookahead.{looks_name, looks_number, looks_text, looks_word, looks_symbol, on_symbol, on_symbol_here, accepts_name, accepts_number, accepts_text, accepts_word, accepts_symbol, ExprEnds, FactorEnds, mark_ends}
 
+-- ---- elements of sets
+
+pub record ElemEnds (w : List Token) : Type 0 where
+  pub expr : ExprEnds w
+  pub dots : on_first (on_symbol mark.DotDot) w ≡ false
+
+pub comma_ends : (w : List Token) → ElemEnds (Symbol mark.Comma ∷ w)
+unfolding same_symbol
+comma_ends w = record { expr = (mark_ends w).2; dots = refl }
+
+pub close_ends : (w : List Token) → ElemEnds (Symbol mark.CloseBracket ∷ w)
+unfolding same_symbol
+close_ends w = record { expr = (mark_ends w).1; dots = refl }
+
+pub last_ends : (last : Option Expr) (rest : List Token) → ElemEnds rest → ExprEnds (spell (write_after mark.DotDot (write_optional last)) rest)
+last_ends None rest ends = ends.expr
+last_ends (Some e) rest ends = (mark_ends _).4
+
+pub elem_starts : (x : Elem) (rest : List Token) → Starts (spell (write_elem x) rest)
+elem_starts x rest = subst Starts (sym (elem_spelled x rest)) (expr_starts (out-Elem x).first _)
+
+pub elems_start : (x : Elem) (xs : List Elem) (rest : List Token) → Starts (spell (with_commas (map write_elem (x ∷ xs))) rest)
+elems_start x xs rest = subst Starts (sym (spell_join (write_elem x) (after_commas (map write_elem xs)) rest)) (elem_starts x _)
+
 module _ (n : Until) (W : Type 0) (d : Dialect) (end : Span) (k : ℕ) (child : Parser Placed Expr) (shrinks : Shrinks child) (good : ExprFollowed n W d k child) where
-  -- ---- elements of sets
-
-  record ElemEnds (w : List Token) : Type 0 where
-    expr : ExprEnds w
-    dots : on_first (on_symbol mark.DotDot) w ≡ false
-
-  comma_ends : (w : List Token) → ElemEnds (Symbol mark.Comma ∷ w)
-  unfolding same_symbol
-  comma_ends w = record { expr = (mark_ends w).2; dots = refl }
-
-  close_ends : (w : List Token) → ElemEnds (Symbol mark.CloseBracket ∷ w)
-  unfolding same_symbol
-  close_ends w = record { expr = (mark_ends w).1; dots = refl }
-
   last_followed : (last : Option Expr) → Part W k (write_after mark.DotDot (write_optional last)) (optional (formed_optional d last)) → (rest : List Token) → ElemEnds rest → (s : List Placed)
       → Along n (spell (write_after mark.DotDot (write_optional last)) rest) s → Followed n W rest (optional_after mark.DotDot child s)
   last_followed None part rest ends s h = optional_none n W d end k child shrinks good mark.DotDot rest ends.dots s h
   last_followed (Some e) part rest ends s h = optional_some n W d end k child shrinks good mark.DotDot e (part_right (symbol mark.DotDot) (write_expr e) part) rest ends.expr s h
-
-  last_ends : (last : Option Expr) (rest : List Token) → ElemEnds rest → ExprEnds (spell (write_after mark.DotDot (write_optional last)) rest)
-  last_ends None rest ends = ends.expr
-  last_ends (Some e) rest ends = (mark_ends _).4
 
   elem_followed : (x : Elem) → Part W k (write_elem x) (formed_elem d x) → (rest : List Token) → ElemEnds rest → (s : List Placed) → Along n (spell (write_elem x) rest) s → Followed n W rest (elem end child s)
   unfolding elem
@@ -67,12 +73,6 @@ module _ (n : Until) (W : Type 0) (d : Dialect) (end : Span) (k : ℕ) (child : 
       follow_then (good (out-Elem x).first (part_first first last _ _ p) (spell last rest) (last_ends (out-Elem x).last rest ends) s (along_as (elem_spelled x rest) h))
       (λ a. then_shrinks (optional_shrinks d end child shrinks mark.DotDot) (λ b. λ n r k. pure_shrinks _ n r k)) (λ a r h.
       follow_then (last_followed (out-Elem x).last (part_second first last _ _ p) rest ends r h) (λ b. λ n r k. pure_shrinks _ n r k) (λ b r h. follow_pure _ h))
-
-  elem_starts : (x : Elem) (rest : List Token) → Starts (spell (write_elem x) rest)
-  elem_starts x rest = subst Starts (sym (elem_spelled x rest)) (expr_starts (out-Elem x).first _)
-
-  elems_start : (x : Elem) (xs : List Elem) (rest : List Token) → Starts (spell (with_commas (map write_elem (x ∷ xs))) rest)
-  elems_start x xs rest = subst Starts (sym (spell_join (write_elem x) (after_commas (map write_elem xs)) rest)) (elem_starts x _)
 
   elems_followed : (xs : List Elem) → Part W k (with_commas (map write_elem xs)) (all (map (formed_elem d) xs)) → (rest : List Token) (s : List Placed)
       → Along n (spell (with_commas (map write_elem xs)) (Symbol mark.CloseBracket ∷ rest)) s → Followed n W (Symbol mark.CloseBracket ∷ rest) (elems end child s)
@@ -123,7 +123,7 @@ module _ (n : Until) (W : Type 0) (d : Dialect) (end : Span) (k : ℕ) (child : 
         let q = part_counted (write_place p) (part_as (write_factor_place p) (formed_factor_place d p) part) in
         follow_first _ _ _ (looks_at looks_name h')
         (follow_token identifiers (accepts_name (out-Place p).name.name) h' (λ name. after_name_shrinks d end child shrinks s name) (λ name r h.
-        follow_not (looks_symbol mark.Open) (call d end child s name) (read_place end child s name) (no_arguments n W d end k child shrinks good (out-Place p).selectors rest ends) h (call_begun s name)
+        follow_not (looks_symbol mark.Open) (call d end child s name) (read_place end child s name) (no_arguments (out-Place p).selectors rest ends) h (call_begun s name)
         (follow_then (place_from_followed n W d end k child shrinks good p q rest ends.selector s name r h) (λ p. pure_shrinks _) (λ p r h. follow_pure _ h))))
 
     call_read : (name : Identifier) (a : Args) (span : Span) → FactorRead (factor_by d end child inner) (factor_.Call name a span)
@@ -183,10 +183,10 @@ module _ (n : Until) (W : Type 0) (d : Dialect) (end : Span) (k : ℕ) (child : 
 
 -- ---- expressions
 
-expr_deep : (e : Expr) → 1 ≤ height_of (write_expr e)
+pub expr_deep : (e : Expr) → 1 ≤ height_of (write_expr e)
 expr_deep e = subst (λ l. 1 ≤ height_of l) (sym (expr_written e)) (omega arith)
 
-factor_deep : (f : Factor) → 1 ≤ height_of (write_factor f)
+pub factor_deep : (f : Factor) → 1 ≤ height_of (write_factor f)
 factor_deep f = factor_cases (λ f. 1 ≤ height_of (write_factor f)) (record {
   number = λ v span. deep (write_factor_number v span);
   text = λ bs span. deep (write_factor_text bs span);

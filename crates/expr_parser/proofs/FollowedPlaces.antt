@@ -60,6 +60,43 @@ selector_starts x = selector_cases StartLaw (record {
   follow = λ span rest. starts_so rest (write_selector_follow span) (record { token = Symbol mark.Caret; more = _; is = refl; selector = refl; no_arguments = refl });
 }) x
 
+abbrev pub row : List Selector → List Token → List Token
+row xs rest = spell (in_row (map write_selector xs)) rest
+
+-- no arguments follow the name of a place
+pub no_arguments : (xs : List Selector) (rest : List Token) → FactorEnds rest → on_first (on_symbol mark.Open) (row xs rest) ≡ false
+no_arguments [] rest ends = ends.arguments
+no_arguments (x ∷ xs) rest ends =
+    let h = selector_starts x (row xs rest) in ap (on_first (on_symbol mark.Open)) (spell_join (write_selector x) (in_row (map write_selector xs)) rest ∙ h.is) ∙ h.no_arguments
+
+-- ---- what follows an argument
+
+pub record ArgEnds (w : List Token) : Type 0 where
+  pub expr : ExprEnds w
+  pub colon : on_first (on_symbol mark.Colon) w ≡ false
+
+abbrev pub format : Option Expr → List Token → List Token
+format e rest = spell (write_after mark.Colon (write_optional e)) rest
+
+pub value_spelled : (value : Expr) (width decimals : Option Expr) (span : Span) (rest : List Token)
+    → spell (write_arg (arg.Value value width decimals span)) rest ≡ spell (write_expr value) (spell (write_after mark.Colon (write_optional width)) (spell (write_after mark.Colon (write_optional decimals)) rest))
+value_spelled value width decimals span rest =
+    let a = write_after mark.Colon (write_optional width) in let b = write_after mark.Colon (write_optional decimals) in
+    ap (λ l. spell l rest) (write_arg_value value width decimals span) ∙ spell_join (write_expr value) (a & b) rest ∙ ap (λ w. spell (write_expr value) w) (spell_join a b rest)
+
+pub formats_end : (d : Dialect) (width decimals : Option Expr) (rest : List Token) → ArgEnds rest → IsTrue (formatted (formed_optional d width) (formed_optional d decimals)) → ExprEnds (format width (format decimals rest))
+formats_end d None None rest ends h = ends.expr
+formats_end d None (Some y) rest ends h = absurd cc
+formats_end d (Some x) decimals rest ends h = (mark_ends _).3
+
+pub comma_ends : (w : List Token) → ArgEnds (Symbol mark.Comma ∷ w)
+unfolding same_symbol
+comma_ends w = record { expr = (mark_ends w).2; colon = refl }
+
+pub close_ends : (w : List Token) → ArgEnds (Symbol mark.Close ∷ w)
+unfolding same_symbol
+close_ends w = record { expr = (mark_ends w).0; colon = refl }
+
 module _ (n : Until) (W : Type 0) (d : Dialect) (end : Span) (k : ℕ) (child : Parser Placed Expr) (shrinks : Shrinks child) (good : ExprFollowed n W d k child) where
   -- [mark Expr]
   pub optional_none : (m : SpecialSymbol) (rest : List Token) → on_first (on_symbol m) rest ≡ false → (s : List Placed) → Along n rest s → Followed n W rest (optional_after m child s)
@@ -104,9 +141,6 @@ module _ (n : Until) (W : Type 0) (d : Dialect) (end : Span) (k : ℕ) (child : 
       takes_either (length s) (begins (symbols mark.Dot) s) _ _ (takes_token (symbols mark.Dot) s (λ _. then_shrinks (one_shrinks _) (λ x. λ n r k. pure_shrinks _ n r k)))
       (takes_either (length s) (begins (symbols mark.Caret) s) _ _ (takes_token (symbols mark.Caret) s (λ u. λ n r k. pure_shrinks _ n r k))
       (takes_token (symbols mark.OpenBracket) s (λ _. then_shrinks (exprs_shrinks d end child shrinks) (λ all. then_shrinks (one_shrinks _) (λ u. λ n r k. pure_shrinks _ n r k)))))
-
-  abbrev row : List Selector → List Token → List Token
-  row xs rest = spell (in_row (map write_selector xs)) rest
 
   selector_listing : Listing n W (λ x rest. spell (write_selector x) rest) row begins_selector on_selector (next_selector end child)
   unfolding next_selector
@@ -187,30 +221,10 @@ module _ (n : Until) (W : Type 0) (d : Dialect) (end : Span) (k : ℕ) (child : 
       (part_as (place_written p) (ap (formed_place d) (place_is p) ∙ formed_place_of d (out-Place p).name (out-Place p).selectors (out-Place p).span) part)) in
       follow_then (selectors_followed (out-Place p).selectors q rest closed s h) (λ all. λ n r k. pure_shrinks _ n r k) (λ all r h. follow_pure _ h)
 
-  -- no arguments follow the name of a place
-  pub no_arguments : (xs : List Selector) (rest : List Token) → FactorEnds rest → on_first (on_symbol mark.Open) (row xs rest) ≡ false
-  no_arguments [] rest ends = ends.arguments
-  no_arguments (x ∷ xs) rest ends =
-      let h = selector_starts x (row xs rest) in ap (on_first (on_symbol mark.Open)) (spell_join (write_selector x) (in_row (map write_selector xs)) rest ∙ h.is) ∙ h.no_arguments
-
   -- ---- arguments
-
-  -- what follows an argument
-  pub record ArgEnds (w : List Token) : Type 0 where
-    pub expr : ExprEnds w
-    pub colon : on_first (on_symbol mark.Colon) w ≡ false
 
   abbrev ArgRead : Arg → Type 0
   ArgRead x = Part W k (write_arg x) (formed_arg d x) → (rest : List Token) → ArgEnds rest → (s : List Placed) → Along n (spell (write_arg x) rest) s → Followed n W rest (one_arg d end child s)
-
-  abbrev format : Option Expr → List Token → List Token
-  format e rest = spell (write_after mark.Colon (write_optional e)) rest
-
-  value_spelled : (value : Expr) (width decimals : Option Expr) (span : Span) (rest : List Token)
-      → spell (write_arg (arg.Value value width decimals span)) rest ≡ spell (write_expr value) (spell (write_after mark.Colon (write_optional width)) (spell (write_after mark.Colon (write_optional decimals)) rest))
-  value_spelled value width decimals span rest =
-      let a = write_after mark.Colon (write_optional width) in let b = write_after mark.Colon (write_optional decimals) in
-      ap (λ l. spell l rest) (write_arg_value value width decimals span) ∙ spell_join (write_expr value) (a & b) rest ∙ ap (λ w. spell (write_expr value) w) (spell_join a b rest)
 
   -- [":" Expr [":" Expr]]
   formats_followed : {A : Type 0} (f : Option Expr → Option Expr → List Placed → A) (width decimals : Option Expr)
@@ -232,11 +246,6 @@ module _ (n : Until) (W : Type 0) (d : Dialect) (end : Span) (k : ℕ) (child : 
       follow_then (optional_some mark.Colon x p (Symbol mark.Colon ∷ spell (write_expr y) rest) (mark_ends _).3 s h) (λ w. then_shrinks (optional_shrinks d end child shrinks mark.Colon) (λ x. λ n r k. pure_shrinks _ n r k)) (λ w r h.
       follow_then (optional_some mark.Colon y q rest ends.expr r h) (λ x. λ n r k. pure_shrinks _ n r k) (λ x r h. follow_pure _ h))
 
-  formats_end : (width decimals : Option Expr) (rest : List Token) → ArgEnds rest → IsTrue (formatted (formed_optional d width) (formed_optional d decimals)) → ExprEnds (format width (format decimals rest))
-  formats_end None None rest ends h = ends.expr
-  formats_end None (Some y) rest ends h = absurd cc
-  formats_end (Some x) decimals rest ends h = (mark_ends _).3
-
   program_begun : (s : List Placed) → begins_program d s ≡ true → Shorter (length s) 0 (program_arg end s)
   unfolding program_arg
   program_begun s e = begun_token (words word_.KwProgram) s (and_out (is_ucsd d) (begins (words word_.KwProgram) s) e).1 (λ u. λ n r k. pure_shrinks _ n r k)
@@ -251,7 +260,7 @@ module _ (n : Until) (W : Type 0) (d : Dialect) (end : Span) (k : ℕ) (child : 
       let h' = along_as (value_spelled value width decimals span rest) h in
       let after = format width (format decimals rest) in
       follow_not (looks_program d) (program_arg end) (value_arg end child) (not_program d (spell v after) (expr_starts value after).program) h' program_begun
-      (follow_then (good value (part_first v others _ _ p) after (formats_end width decimals rest ends q.formed) s h')
+      (follow_then (good value (part_first v others _ _ p) after (formats_end d width decimals rest ends q.formed) s h')
       (λ v. then_shrinks (optional_shrinks d end child shrinks mark.Colon) (λ w. then_shrinks (optional_shrinks d end child shrinks mark.Colon) (λ x. λ n r k. pure_shrinks _ n r k))) (λ v r h.
       formats_followed (λ w x r. arg.Value v w x (span_between end s r)) width decimals q rest ends r h))
 
@@ -265,14 +274,6 @@ module _ (n : Until) (W : Type 0) (d : Dialect) (end : Span) (k : ℕ) (child : 
 
   arg_followed : (x : Arg) → ArgRead x
   arg_followed x = arg_cases ArgRead (record { value = value_read; program = program_read }) x
-
-  comma_ends : (w : List Token) → ArgEnds (Symbol mark.Comma ∷ w)
-  unfolding same_symbol
-  comma_ends w = record { expr = (mark_ends w).2; colon = refl }
-
-  close_ends : (w : List Token) → ArgEnds (Symbol mark.Close ∷ w)
-  unfolding same_symbol
-  close_ends w = record { expr = (mark_ends w).0; colon = refl }
 
   listed_followed : (xs : List Arg) → Part W k (with_commas (map write_arg xs)) (some_all (map (formed_arg d) xs)) → (rest : List Token) → (s : List Placed)
       → Along n (spell (with_commas (map write_arg xs)) (Symbol mark.Close ∷ rest)) s → Followed n W (Symbol mark.Close ∷ rest) (listed_args d end child s)

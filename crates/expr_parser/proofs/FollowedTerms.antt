@@ -32,46 +32,59 @@ use Rattle.expr_parser.proofs.Lookahead.{looks_sign, looks_relation, looks_addin
 -- ---- parts of parts
 
 module _ {W : Type 0} (d : Dialect) {k : ℕ} where
-  multiplied_part : (x : MultipliedFactor) → Part W k (write_multiplied x) (formed_multiplied d x) → Part W k (write_factor (out-MultipliedFactor x).factor) (formed_factor d (out-MultipliedFactor x).factor)
+  pub multiplied_part : (x : MultipliedFactor) → Part W k (write_multiplied x) (formed_multiplied d x) → Part W k (write_factor (out-MultipliedFactor x).factor) (formed_factor d (out-MultipliedFactor x).factor)
   multiplied_part x h =
       part_right (token (multiplying_token (out-MultipliedFactor x).operator)) (write_factor (out-MultipliedFactor x).factor)
       (part_as (multiplied_written x) (ap (formed_multiplied d) (multiplied_is x) ∙ formed_multiplied_of d (out-MultipliedFactor x).operator (out-MultipliedFactor x).factor) h)
 
-  added_part : (x : AddedTerm) → Part W k (write_added x) (formed_added d x) → Part W k (write_term (out-AddedTerm x).term) (formed_term d (out-AddedTerm x).term)
+  pub added_part : (x : AddedTerm) → Part W k (write_added x) (formed_added d x) → Part W k (write_term (out-AddedTerm x).term) (formed_term d (out-AddedTerm x).term)
   added_part x h =
       part_right (token (adding_token (out-AddedTerm x).operator)) (write_term (out-AddedTerm x).term)
       (part_as (added_written x) (ap (formed_added d) (added_is x) ∙ formed_added_of d (out-AddedTerm x).operator (out-AddedTerm x).term) h)
 
-  term_part : (x : Term) → Part W k (write_term x) (formed_term d x)
+  pub term_part : (x : Term) → Part W k (write_term x) (formed_term d x)
       → Part W k (write_factor (out-Term x).first & in_row (map write_multiplied (out-Term x).rest)) (formed_factor d (out-Term x).first && all (map (formed_multiplied d) (out-Term x).rest))
   term_part x h =
       part_inside (write_factor (out-Term x).first & in_row (map write_multiplied (out-Term x).rest))
       (part_as (term_written x) (ap (formed_term d) (term_is x) ∙ formed_term_of d (out-Term x).first (out-Term x).rest (out-Term x).span) h)
 
-  simple_part : (x : Simple) → Part W k (write_simple x) (formed_simple d x)
+  pub simple_part : (x : Simple) → Part W k (write_simple x) (formed_simple d x)
       → Part W k (write_term (out-Simple x).first & in_row (map write_added (out-Simple x).rest)) (formed_term d (out-Simple x).first && all (map (formed_added d) (out-Simple x).rest))
   simple_part x h =
       let inside = write_term (out-Simple x).first & in_row (map write_added (out-Simple x).rest) in
       part_right (write_sign (out-Simple x).sign) inside (part_inside (write_sign (out-Simple x).sign & inside)
       (part_as (simple_written x) (ap (formed_simple d) (simple_is x) ∙ formed_simple_of d (out-Simple x).sign (out-Simple x).first (out-Simple x).rest (out-Simple x).span) h))
 
-  expr_part : (x : Expr) → Part W (suc k) (write_expr x) (formed_expr d x)
+  pub expr_part : (x : Expr) → Part W (suc k) (write_expr x) (formed_expr d x)
       → Part W k (write_simple (out-Expr x).left & write_right (out-Expr x).right) (formed_simple d (out-Expr x).left && formed_right d (out-Expr x).right)
   expr_part x h =
       let inside = write_simple (out-Expr x).left & write_right (out-Expr x).right in
       part_inside inside (part_counted _ (part_as (expr_written x) (ap (formed_expr d) (expr_is x) ∙ formed_expr_of d (out-Expr x).left (out-Expr x).right (out-Expr x).span) h))
 
+-- ---- what follows parts
+
+abbrev pub factors : List MultipliedFactor → List Token → List Token
+factors xs rest = spell (in_row (map write_multiplied xs)) rest
+
+pub factors_end : (xs : List MultipliedFactor) (rest : List Token) → TermEnds rest → FactorEnds (factors xs rest)
+factors_end [] rest ends = ends.factor
+factors_end (x ∷ xs) rest ends =
+    subst FactorEnds (sym (spell_join (write_multiplied x) (in_row (map write_multiplied xs)) rest ∙ multiplied_spelled x (factors xs rest))) (multiplying_ends (out-MultipliedFactor x).operator _)
+
+abbrev pub terms : List AddedTerm → List Token → List Token
+terms xs rest = spell (in_row (map write_added xs)) rest
+
+pub terms_end : (xs : List AddedTerm) (rest : List Token) → SimpleEnds rest → TermEnds (terms xs rest)
+terms_end [] rest ends = ends.term
+terms_end (x ∷ xs) rest ends = subst TermEnds (sym (spell_join (write_added x) (in_row (map write_added xs)) rest ∙ added_spelled x (terms xs rest))) (adding_ends (out-AddedTerm x).operator _)
+
+pub right_ends : (right : Option (Relation × Simple)) (rest : List Token) → ExprEnds rest → SimpleEnds (spell (write_right right) rest)
+right_ends None rest ends = ends.simple
+right_ends (Some r) rest ends = relation_ends r.0 _
+
 -- ---- terms
 
 module _ (n : Until) (W : Type 0) (d : Dialect) (end : Span) (k : ℕ) (child : Parser Placed Factor) (shrinks : Shrinks child) (good : FactorFollowed n W d k child) where
-  abbrev factors : List MultipliedFactor → List Token → List Token
-  factors xs rest = spell (in_row (map write_multiplied xs)) rest
-
-  factors_end : (xs : List MultipliedFactor) (rest : List Token) → TermEnds rest → FactorEnds (factors xs rest)
-  factors_end [] rest ends = ends.factor
-  factors_end (x ∷ xs) rest ends =
-      subst FactorEnds (sym (spell_join (write_multiplied x) (in_row (map write_multiplied xs)) rest ∙ multiplied_spelled x (factors xs rest))) (multiplying_ends (out-MultipliedFactor x).operator _)
-
   factor_begun : (found : List MultipliedFactor) → Begun (begins multiplyings) (next_factor child found)
   unfolding next_factor
   factor_begun found s e = begun_token multiplyings s e (λ op. then_shrinks shrinks (λ f. pure_shrinks _))
@@ -119,14 +132,6 @@ module _ (n : Until) (W : Type 0) (d : Dialect) (end : Span) (k : ℕ) (child : 
       follow_then (factors_followed (out-Term t).rest (part_second first row _ _ p) rest ends r h) (λ all. λ n r k. pure_shrinks _ n r k) (λ all r h. follow_pure _ h))
 
   -- ---- sums
-
-  abbrev terms : List AddedTerm → List Token → List Token
-  terms xs rest = spell (in_row (map write_added xs)) rest
-
-  terms_end : (xs : List AddedTerm) (rest : List Token) → SimpleEnds rest → TermEnds (terms xs rest)
-  terms_end [] rest ends = ends.term
-  terms_end (x ∷ xs) rest ends =
-      subst TermEnds (sym (spell_join (write_added x) (in_row (map write_added xs)) rest ∙ added_spelled x (terms xs rest))) (adding_ends (out-AddedTerm x).operator _)
 
   term_begun : (found : List AddedTerm) → Begun (begins addings) (next_term end child found)
   unfolding next_term
@@ -184,10 +189,6 @@ module _ (n : Until) (W : Type 0) (d : Dialect) (end : Span) (k : ℕ) (child : 
       follow_then (terms_followed (out-Simple x).rest (part_second first row _ _ p) rest ends r h) (λ all. λ n r k. pure_shrinks _ n r k) (λ all r h. follow_pure _ h)))
 
   -- ---- comparisons
-
-  right_ends : (right : Option (Relation × Simple)) (rest : List Token) → ExprEnds rest → SimpleEnds (spell (write_right right) rest)
-  right_ends None rest ends = ends.simple
-  right_ends (Some r) rest ends = relation_ends r.0 _
 
   compared_followed : (right : Option (Relation × Simple)) → Part W k (write_right right) (formed_right d right) → (rest : List Token) → ExprEnds rest → (s : List Placed)
       → Along n (spell (write_right right) rest) s → Followed n W rest (compared end child s)

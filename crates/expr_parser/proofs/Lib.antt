@@ -30,4 +30,11 @@ pub mod Examples
 pub mod ConstantShrinks
 pub mod FollowedConstants
 pub mod SoundConstants
+pub mod Exact
+pub mod ExactTerms
+pub mod ExactLists
+pub mod ExactPlaces
+pub mod ExactFactors
+pub mod ExactConstants
+pub mod Unique
 pub mod WordsKnown

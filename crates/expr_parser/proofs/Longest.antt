@@ -26,7 +26,7 @@ along_whole : (front rest : List Placed) → Along (ended (length rest)) (plain 
 along_whole [] rest = done rest
 along_whole (x ∷ front) rest = longer (ended (length rest)) x x.token (plain front) (front ++ rest) refl (along_whole front rest)
 
-plain_join : (a b : List Placed) → plain (a ++ b) ≡ plain a ++ plain b
+pub plain_join : (a b : List Placed) → plain (a ++ b) ≡ plain a ++ plain b
 plain_join a b = map-append (λ (x : Placed). x.token) a b
 
 spelled_whole : (l : Layout) (w : List Token) → tokens_of l ≡ w → spell l [] ≡ w
@@ -62,7 +62,7 @@ not_stopped _ (refuses_past j h) e w = absurd cc
 not_stopped {n} {k} _ (too_deep j h) e w = subst (λ z. z < limit n) (ap length_of e) (h w)
 
 -- of two splits of a list, that with the longer front has one more element at least
-longer_front : (run rest front bad : List Placed) → run ++ rest ≡ front ++ bad → length bad < length rest → (t : Placed) × (more between : List Placed) × (rest ≡ t ∷ more) × (front ≡ (run ++ t ∷ []) ++ between)
+pub longer_front : (run rest front bad : List Placed) → run ++ rest ≡ front ++ bad → length bad < length rest → (t : Placed) × (more between : List Placed) × (rest ≡ t ∷ more) × (front ≡ (run ++ t ∷ []) ++ between)
 longer_front [] (t ∷ more) [] bad e below = absurd (let same = ap length e in omega (arith, same, below))
 longer_front [] (t ∷ more) (x ∷ front) bad e below = let same : t ≡ x = cc in (t, more, front, refl, ap (λ z. z ∷ front) (sym same))
 longer_front [] [] front bad e below = absurd (omega (arith, below))
@@ -78,7 +78,7 @@ longer_front (x ∷ run) rest (y ∷ front) bad e below =
 -- ---- a parser of some kind of trees
 
 -- the tree of an answer, or another where there is none
-abbrev tree_of : {C : Type 0} → C → Outcome Placed C → C
+abbrev pub tree_of : {C : Type 0} → C → Outcome Placed C → C
 tree_of other (Ok p) = p.0
 tree_of other (Err f) = other
 

@@ -24,7 +24,7 @@ use Rattle.expr_parser.specs.Tokens.{Token, Name, Number, Text, Word, Symbol}
 use Rattle.expr_parser.specs.Classes.{same_word, same_symbol, if_true, identifier_of, number_of, text_of, word_of, symbol_of, sign_of, relation_of_symbol, relation_of_word, adding_of_symbol, adding_of_word, multiplying_of_symbol, multiplying_of_word, operator_of, identifiers, numbers, texts, words, symbols, signs, relations, addings, multiplyings}
 use Rattle.expr_parser.specs.Writing.{sign_token, relation_token, adding_token, multiplying_token}
 use Rattle.expr_parser.specs.Places.{begins_selector, begins_program}
-use Rattle.expr_parser.proofs.Followed.{Looks, on_first, Accepts}
+use Rattle.expr_parser.proofs.Followed.{Looks, on_first, Says, Accepts}
 
 -- ---- tests
 
@@ -128,29 +128,44 @@ not_program d (x ∷ w) e = ap (λ b. is_ucsd d && b) e ∙ no_program d
 
 -- ---- tokens of classes
 
-pub accepts_symbol : (m : SpecialSymbol) → Accepts (symbols m) (Symbol m)
+pub says_symbol : (m : SpecialSymbol) → Says (symbols m) (Symbol m) tt
 unfolding same_symbol
-accepts_symbol m t e = (tt, ap (symbol_of m) e ∙ ap (if_true tt) (true_same the_symbols.the_type m m refl))
+says_symbol m t e = ap (symbol_of m) e ∙ ap (if_true tt) (true_same the_symbols.the_type m m refl)
+
+pub accepts_symbol : (m : SpecialSymbol) → Accepts (symbols m) (Symbol m)
+accepts_symbol m t e = (tt, says_symbol m t e)
+
+pub says_word : (w : WordSymbol) → Says (words w) (Word w) tt
+unfolding same_word
+says_word w t e = ap (word_of w) e ∙ ap (if_true tt) (true_same the_words.the_type w w refl)
 
 pub accepts_word : (w : WordSymbol) → Accepts (words w) (Word w)
-unfolding same_word
-accepts_word w t e = (tt, ap (word_of w) e ∙ ap (if_true tt) (true_same the_words.the_type w w refl))
+accepts_word w t e = (tt, says_word w t e)
 
 pub accepts_name : (n : List ℕ) → Accepts identifiers (Name n)
 accepts_name n t e = (record { name = n; span = t.span }, ap (λ x. identifier_of x t.span) e)
 
+pub says_number : (v : ℤ) → Says numbers (Number v) v
+says_number v t e = ap number_of e
+
 pub accepts_number : (v : ℤ) → Accepts numbers (Number v)
-accepts_number v t e = (v, ap number_of e)
+accepts_number v t e = (v, says_number v t e)
+
+pub says_text : (bs : List ℕ) → Says texts (Text bs) bs
+says_text bs t e = ap text_of e
 
 pub accepts_text : (bs : List ℕ) → Accepts texts (Text bs)
-accepts_text bs t e = (bs, ap text_of e)
+accepts_text bs t e = (bs, says_text bs t e)
 
 sign_here : (op : Sign) → operator_of (λ w. None) sign_of (sign_token op) ≡ Some op
 sign_here sign.Plus = refl
 sign_here sign.Minus = refl
 
+pub says_sign : (op : Sign) → Says signs (sign_token op) op
+says_sign op t e = ap (operator_of (λ w. None) sign_of) e ∙ sign_here op
+
 pub accepts_sign : (op : Sign) → Accepts signs (sign_token op)
-accepts_sign op t e = (op, ap (operator_of (λ w. None) sign_of) e ∙ sign_here op)
+accepts_sign op t e = (op, says_sign op t e)
 
 relation_here : (op : Relation) → operator_of relation_of_word relation_of_symbol (relation_token op) ≡ Some op
 relation_here relation.Equal = refl
@@ -161,8 +176,11 @@ relation_here relation.AtMost = refl
 relation_here relation.AtLeast = refl
 relation_here relation.In = refl
 
+pub says_relation : (op : Relation) → Says relations (relation_token op) op
+says_relation op t e = ap (operator_of relation_of_word relation_of_symbol) e ∙ relation_here op
+
 pub accepts_relation : (op : Relation) → Accepts relations (relation_token op)
-accepts_relation op t e = (op, ap (operator_of relation_of_word relation_of_symbol) e ∙ relation_here op)
+accepts_relation op t e = (op, says_relation op t e)
 
 adding_here : (op : Adding) → operator_of adding_of_word adding_of_symbol (adding_token op) ≡ Some op
 adding_here adding.Add = refl
@@ -170,8 +188,11 @@ adding_here adding.Subtract = refl
 adding_here adding.Or = refl
 adding_here adding.Xor = refl
 
+pub says_adding : (op : Adding) → Says addings (adding_token op) op
+says_adding op t e = ap (operator_of adding_of_word adding_of_symbol) e ∙ adding_here op
+
 pub accepts_adding : (op : Adding) → Accepts addings (adding_token op)
-accepts_adding op t e = (op, ap (operator_of adding_of_word adding_of_symbol) e ∙ adding_here op)
+accepts_adding op t e = (op, says_adding op t e)
 
 multiplying_here : (op : Multiplying) → operator_of multiplying_of_word multiplying_of_symbol (multiplying_token op) ≡ Some op
 multiplying_here multiplying.Multiply = refl
@@ -182,8 +203,11 @@ multiplying_here multiplying.And = refl
 multiplying_here multiplying.Shl = refl
 multiplying_here multiplying.Shr = refl
 
+pub says_multiplying : (op : Multiplying) → Says multiplyings (multiplying_token op) op
+says_multiplying op t e = ap (operator_of multiplying_of_word multiplying_of_symbol) e ∙ multiplying_here op
+
 pub accepts_multiplying : (op : Multiplying) → Accepts multiplyings (multiplying_token op)
-accepts_multiplying op t e = (op, ap (operator_of multiplying_of_word multiplying_of_symbol) e ∙ multiplying_here op)
+accepts_multiplying op t e = (op, says_multiplying op t e)
 
 pub on_symbol_here : (m : SpecialSymbol) → on_symbol m (Symbol m) ≡ true
 unfolding same_symbol

@@ -208,7 +208,7 @@ module _ (n : Until) (W : Type 0) (d : Dialect) (end : Span) (k : ℕ) (child : 
   assignment_followed p e part q rest ends from i s h =
       let w = Symbol mark.Assign ∷ spell (write_expr e) rest in
       follow_not (looks_symbol mark.Open) (call_with d end child from i) (either begins_target (assignment end child from i) (call_alone end from i))
-      (no_arguments n W d end k child shrinks good (out-Place p).selectors w (assign_ends (spell (write_expr e) rest))) h (call_begun d end child shrinks from i)
+      (no_arguments (out-Place p).selectors w (assign_ends (spell (write_expr e) rest))) h (call_begun d end child shrinks from i)
       (follow_first (begins_target s) _ _ (looks_true looks_target (some_target (out-Place p).selectors (spell (write_expr e) rest)) h) (assignment_read p e part q rest ends from i s h))
 
   pub call_followed : (a : Option Args) → (p : (x : Args) → a ≡ Some x → Part W k (write_args x) (formed_args d x)) → (rest : List Token) → ExprEnds rest → on_first (on_symbol mark.Assign) rest ≡ false → (from : List Placed) (i : Identifier) (s : List Placed)

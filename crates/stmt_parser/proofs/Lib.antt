@@ -19,3 +19,9 @@ pub mod SoundCases
 pub mod SoundLevels
 pub mod Clauses
 pub mod Examples
+pub mod ExactSimple
+pub mod ExactStatements
+pub mod ExactArms
+pub mod ExactCases
+pub mod ExactLevels
+pub mod ExactClauses

@@ -24,3 +24,11 @@ abbrev pub TooDeepIsDeep : Type 0
 TooDeepIsDeep = (d : Dialect) (end : Span) (outer levels left : ℕ) (from : List Placed) → AreTokens d (plain from) → stmt d end levels from ≡ Err (TooDeep left)
     → ((front bad : List Placed) × (from ≡ front ++ bad) × (length bad ≡ left) × MayBegin d outer (outer + levels) (plain front))
     × NoFitting d levels from
+
+-- A statement's tokens have one tree.
+abbrev pub TreeIsUnique : Type 0
+TreeIsUnique = (d : Dialect) (end : Span) (m n : ℕ) (a b : Stmt) (from rest : List Placed) → Derives d end m a from rest → Derives d end n b from rest → a ≡ b
+
+-- Where the longest run has a tree within the levels, that tree is read.
+abbrev pub LongestIsRead : Type 0
+LongestIsRead = (d : Dialect) (end : Span) (levels : ℕ) (from run rest : List Placed) (s : Stmt) → AreTokens d (plain from) → IsLongestRun d from run rest → Derives d end levels s from rest → stmt d end levels from ≡ Ok (s, rest)

@@ -40,10 +40,10 @@ use Rattle.type_parser.proofs.FollowedVariants.{on_constant, variants_spelled, v
 
 -- ---- a section, by its parts
 
-section_written : (x : FixedSection) → write_section x ≡ spanned (out-FixedSection x).span (write_names (out-FixedSection x).names & symbol mark.Colon & write_type (out-FixedSection x).of)
+pub section_written : (x : FixedSection) → write_section x ≡ spanned (out-FixedSection x).span (write_names (out-FixedSection x).names & symbol mark.Colon & write_type (out-FixedSection x).of)
 section_written x = ap (λ y. write_section y) (section_is x) ∙ write_section_of (out-FixedSection x).names (out-FixedSection x).of (out-FixedSection x).span
 
-section_formed : (d : Dialect) (x : FixedSection) → formed_section d x ≡ (some_names (out-FixedSection x).names && formed_type d (out-FixedSection x).of)
+pub section_formed : (d : Dialect) (x : FixedSection) → formed_section d x ≡ (some_names (out-FixedSection x).names && formed_type d (out-FixedSection x).of)
 section_formed d x = ap (formed_section d) (section_is x) ∙ formed_section_of d (out-FixedSection x).names (out-FixedSection x).of (out-FixedSection x).span
 
 section_spelled : (x : FixedSection) (w : List Token) → spell (write_section x) w ≡ spell (write_names (out-FixedSection x).names) (Symbol mark.Colon ∷ spell (write_type (out-FixedSection x).of) w)
@@ -53,51 +53,60 @@ names_start : (ns : List Identifier) → IsTrue (some_names ns) → (w : List To
 names_start [] formed w = absurd cc
 names_start (x ∷ xs) formed w = refl
 
-section_starts : (d : Dialect) (x : FixedSection) → IsTrue (formed_section d x) → (w : List Token) → on_first on_name (spell (write_section x) w) ≡ true
+pub section_starts : (d : Dialect) (x : FixedSection) → IsTrue (formed_section d x) → (w : List Token) → on_first on_name (spell (write_section x) w) ≡ true
 section_starts d x formed w =
     ap (on_first on_name) (section_spelled x w) ∙ names_start (out-FixedSection x).names (and_out (some_names (out-FixedSection x).names) (formed_type d (out-FixedSection x).of) (subst IsTrue (section_formed d x) formed)).0 _
 
-fixed_written : (x : Fixed) → write_fixed x ≡ spanned (out-Fixed x).span (with_semicolons (map write_section (out-Fixed x).sections))
+pub fixed_written : (x : Fixed) → write_fixed x ≡ spanned (out-Fixed x).span (with_semicolons (map write_section (out-Fixed x).sections))
 fixed_written x = ap (λ y. write_fixed y) (fixed_is x) ∙ write_fixed_of (out-Fixed x).sections (out-Fixed x).span
 
-fixed_formed : (d : Dialect) (x : Fixed) → formed_fixed d x ≡ some_all (map (formed_section d) (out-Fixed x).sections)
+pub fixed_formed : (d : Dialect) (x : Fixed) → formed_fixed d x ≡ some_all (map (formed_section d) (out-Fixed x).sections)
 fixed_formed d x = ap (formed_fixed d) (fixed_is x) ∙ formed_fixed_of d (out-Fixed x).sections (out-Fixed x).span
 
 sections_start : (d : Dialect) (xs : List FixedSection) → IsTrue (some_all (map (formed_section d) xs)) → (w : List Token) → on_first on_name (spell (with_semicolons (map write_section xs)) w) ≡ true
 sections_start d [] formed w = absurd cc
 sections_start d (x ∷ xs) formed w = ap (on_first on_name) (spell_join (write_section x) _ w) ∙ section_starts d x (and_out (formed_section d x) _ formed).0 _
 
-fixed_starts : (d : Dialect) (x : Fixed) → IsTrue (formed_fixed d x) → (w : List Token) → on_first on_name (spell (write_fixed x) w) ≡ true
+pub fixed_starts : (d : Dialect) (x : Fixed) → IsTrue (formed_fixed d x) → (w : List Token) → on_first on_name (spell (write_fixed x) w) ≡ true
 fixed_starts d x formed w = ap (λ l. on_first on_name (spell l w)) (fixed_written x) ∙ sections_start d (out-Fixed x).sections (subst IsTrue (fixed_formed d x) formed) w
 
 -- ---- a list of fields, by its parts
 
-abbrev inside_of : Option Fixed → Option Variants → Bool → Layout
+abbrev pub inside_of : Option Fixed → Option Variants → Bool → Layout
 inside_of f v closed = fixed_and_variants (option_map write_fixed f) (option_map write_variants v) & write_semicolon closed
 
-abbrev formed_inside : Dialect → Option Fixed → Option Variants → Bool → Bool
+abbrev pub formed_inside : Dialect → Option Fixed → Option Variants → Bool → Bool
 formed_inside d f v closed = may_close (option_map (formed_fixed d) f) (option_map (formed_variants d) v) closed && optional (option_map (formed_fixed d) f) && optional (option_map (formed_variants d) v)
 
 pub fields_written : (x : Fields) → write_fields x ≡ counted (spanned (out-Fields x).span (inside_of (out-Fields x).fixed (out-Fields x).variants (out-Fields x).closed))
 fields_written x = ap (λ y. write_fields y) (fields_is x) ∙ write_fields_of (out-Fields x).fixed (out-Fields x).variants (out-Fields x).closed (out-Fields x).span
 
-fields_formed : (d : Dialect) (x : Fields) → formed_fields d x ≡ formed_inside d (out-Fields x).fixed (out-Fields x).variants (out-Fields x).closed
+pub fields_formed : (d : Dialect) (x : Fields) → formed_fields d x ≡ formed_inside d (out-Fields x).fixed (out-Fields x).variants (out-Fields x).closed
 fields_formed d x = ap (formed_fields d) (fields_is x) ∙ formed_fields_of d (out-Fields x).fixed (out-Fields x).variants (out-Fields x).closed (out-Fields x).span
 
 -- ---- the end of a list of fields
 
 -- no part with these tokens at its beginning goes on
-none_behind : (on : Token → Bool) → on (Symbol mark.Close) ≡ false → on (Word word_.KwEnd) ≡ false → (closed : Bool) (rest : List Token) → Closing rest → NoMore on (spell (write_semicolon closed) rest)
+pub none_behind : (on : Token → Bool) → on (Symbol mark.Close) ≡ false → on (Word word_.KwEnd) ≡ false → (closed : Bool) (rest : List Token) → Closing rest → NoMore on (spell (write_semicolon closed) rest)
 unfolding same_symbol
 none_behind on a b true _ (at_close w) = closing (Symbol mark.Close) w a
 none_behind on a b true _ (at_end w) = closing (Word word_.KwEnd) w b
 none_behind on a b false _ (at_close w) = other (Symbol mark.Close) w refl
 none_behind on a b false _ (at_end w) = other (Word word_.KwEnd) w refl
 
-types_end : (closed : Bool) (rest : List Token) → Closing rest → TypeEnds (spell (write_semicolon closed) rest)
+pub types_end : (closed : Bool) (rest : List Token) → Closing rest → TypeEnds (spell (write_semicolon closed) rest)
 types_end true rest c = (marks_end rest).2
 types_end false _ (at_close w) = (marks_end w).3
 types_end false _ (at_end w) = (marks_end w).4
+
+-- behind the fixed part no section goes on, and its last type ends
+pub names_end : (v : Option Variants) (closed : Bool) (rest : List Token) → Closing rest → NoMore on_name (spell (write_more v) (spell (write_semicolon closed) rest))
+names_end None closed rest c = none_behind on_name refl refl closed rest c
+names_end (Some v) closed rest c = subst (λ w. NoMore on_name (Symbol mark.Semicolon ∷ w)) (sym (variants_spelled v (spell (write_semicolon closed) rest))) (closing (Word word_.KwCase) _ refl)
+
+pub fixed_ends : (v : Option Variants) (closed : Bool) (rest : List Token) → Closing rest → TypeEnds (spell (write_more v) (spell (write_semicolon closed) rest))
+fixed_ends None closed rest c = types_end closed rest c
+fixed_ends (Some v) closed rest c = (marks_end _).2
 
 semicolon_begun : (s : List Placed) → begins (symbols mark.Semicolon) s ≡ true → Shorter (length s) 0 (optional_semicolon s)
 unfolding optional_semicolon
@@ -160,14 +169,6 @@ module _ (n : Until) (W : Type 0) (d : Dialect) (end : Span) (k : ℕ) (child : 
   abbrev behind_fixed : List Placed → Fixed → Parser Placed Fields
   behind_fixed from x = λ s. and_then (optional_variants d end inner s) (ending from (Some x))
 
-  names_end : (v : Option Variants) (closed : Bool) (rest : List Token) → Closing rest → NoMore on_name (spell (write_more v) (spell (write_semicolon closed) rest))
-  names_end None closed rest c = none_behind on_name refl refl closed rest c
-  names_end (Some v) closed rest c = subst (λ w. NoMore on_name (Symbol mark.Semicolon ∷ w)) (sym (variants_spelled v (spell (write_semicolon closed) rest))) (closing (Word word_.KwCase) _ refl)
-
-  fixed_ends : (v : Option Variants) (closed : Bool) (rest : List Token) → Closing rest → TypeEnds (spell (write_more v) (spell (write_semicolon closed) rest))
-  fixed_ends None closed rest c = types_end closed rest c
-  fixed_ends (Some v) closed rest c = (marks_end _).2
-
   fixed_first : (x : Fixed) (v : Option Variants) (closed : Bool) → Part W k (write_fixed x) (formed_fixed d x) → Part W k (write_more v) (optional (option_map (formed_variants d) v)) → (rest : List Token) → Closing rest → (s : List Placed)
       → Along n (spell (write_fixed x) (spell (write_more v) (spell (write_semicolon closed) rest))) s → Followed n W rest (fields_by d end child inner s)
   unfolding fields_by with_fixed same_word
@@ -216,7 +217,7 @@ module _ (n : Until) (W : Type 0) (d : Dialect) (end : Span) (k : ℕ) (child : 
 counts : {l m : Layout} → l ≡ counted m → 1 ≤ height_of l
 counts {l} {m} e = subst (λ l. 1 ≤ height_of l) (sym e) (omega arith)
 
-type_deep : (t : TypeNode) → 1 ≤ height_of (write_type t)
+pub type_deep : (t : TypeNode) → 1 ≤ height_of (write_type t)
 type_deep t = type_cases (λ t. 1 ≤ height_of (write_type t)) (record {
   structured = λ packed x span. counts (write_type_structured packed x span);
   pointer = λ i span. counts (write_type_pointer i span);
@@ -226,7 +227,7 @@ type_deep t = type_cases (λ t. 1 ≤ height_of (write_type t)) (record {
   string = λ c span. counts (write_type_string c span);
 }) t
 
-fields_deep : (x : Fields) → 1 ≤ height_of (write_fields x)
+pub fields_deep : (x : Fields) → 1 ≤ height_of (write_fields x)
 fields_deep x = counts (fields_written x)
 
 mutual

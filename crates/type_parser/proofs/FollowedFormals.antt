@@ -37,27 +37,27 @@ pub record FormalEnds (w : List Token) : Type 0 where
   pub some : w ≡ [] → ⊥
   pub formals : on_first (on_symbol mark.Open) w ≡ false
 
-semicolon_ends : (w : List Token) → FormalEnds (Symbol mark.Semicolon ∷ w)
+pub semicolon_ends : (w : List Token) → FormalEnds (Symbol mark.Semicolon ∷ w)
 unfolding same_symbol
 semicolon_ends w = record { some = λ e. absurd cc; formals = refl }
 
-close_ends : (w : List Token) → FormalEnds (Symbol mark.Close ∷ w)
+pub close_ends : (w : List Token) → FormalEnds (Symbol mark.Close ∷ w)
 unfolding same_symbol
 close_ends w = record { some = λ e. absurd cc; formals = refl }
 
-colon_ends : (w : List Token) → FormalEnds (Symbol mark.Colon ∷ w)
+pub colon_ends : (w : List Token) → FormalEnds (Symbol mark.Colon ∷ w)
 unfolding same_symbol
 colon_ends w = record { some = λ e. absurd cc; formals = refl }
 
 -- with what a list of names begins
-first_name : (ns : List Identifier) → IsTrue (some_names ns) → (w : List Token) → (x : List ℕ) × (v : List Token) × (spell (write_names ns) w ≡ Name x ∷ v)
+pub first_name : (ns : List Identifier) → IsTrue (some_names ns) → (w : List Token) → (x : List ℕ) × (v : List Token) × (spell (write_names ns) w ≡ Name x ∷ v)
 first_name [] formed w = absurd cc
 first_name (x ∷ xs) formed w = (x.name, _, refl)
 
-formals_written : (x : Formals) → write_formals x ≡ counted (spanned (out-Formals x).span (symbol mark.Open & with_semicolons (map write_formal (out-Formals x).list) & symbol mark.Close))
+pub formals_written : (x : Formals) → write_formals x ≡ counted (spanned (out-Formals x).span (symbol mark.Open & with_semicolons (map write_formal (out-Formals x).list) & symbol mark.Close))
 formals_written x = ap (λ y. write_formals y) (formals_is x) ∙ write_formals_of (out-Formals x).list (out-Formals x).span
 
-formals_formed : (x : Formals) → formed_formals x ≡ some_all (map formed_formal (out-Formals x).list)
+pub formals_formed : (x : Formals) → formed_formals x ≡ some_all (map formed_formal (out-Formals x).list)
 formals_formed x = ap formed_formals (formals_is x) ∙ formed_formals_of (out-Formals x).list (out-Formals x).span
 
 module _ (n : Until) (W : Type 0) (k : ℕ) where
@@ -193,7 +193,7 @@ module _ (n : Until) (W : Type 0) (end : Span) where
         follow_then (listed_followed (out-Formals f).list p rest r h) (λ all. then_shrinks (one_shrinks _) (λ u. λ n r k. pure_shrinks _ n r k)) (λ all r h.
         follow_token (symbols mark.Close) (accepts_symbol mark.Close) h (λ u. λ n r k. pure_shrinks _ n r k) (λ _ r h. follow_pure _ h)))
 
-formals_deep : (f : Formals) → 1 ≤ height_of (write_formals f)
+pub formals_deep : (f : Formals) → 1 ≤ height_of (write_formals f)
 formals_deep f = subst (λ l. 1 ≤ height_of l) (sym (formals_written f)) (omega arith)
 
 pub formals_followed : (n : Until) (W : Type 0) (end : Span) (k : ℕ) → FormalsFollowed n W k (formals end k)

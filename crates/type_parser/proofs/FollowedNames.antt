@@ -25,11 +25,11 @@ use Rattle.type_parser.specs.Names.{next_name, more_names, names, string_name, t
 
 -- ---- lists of names
 
-trues : (xs : List Identifier) → IsTrue (all (map (λ (x : Identifier). true) xs))
+pub trues : (xs : List Identifier) → IsTrue (all (map (λ (x : Identifier). true) xs))
 trues [] = refl
 trues (x ∷ xs) = trues xs
 
-flat : (xs : List Identifier) → height_of (after_commas (map identifier xs)) ≡ 0
+pub flat : (xs : List Identifier) → height_of (after_commas (map identifier xs)) ≡ 0
 flat [] = refl
 flat (x ∷ xs) = omega (arith, flat xs)
 

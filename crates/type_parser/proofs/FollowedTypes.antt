@@ -71,6 +71,23 @@ pub looks_struct : Looks (begins struct_words) on_struct
 unfolding begins
 looks_struct = record { none = refl; some = λ t s. refl }
 
+-- with what a type with parts begins
+pub record StructStarts (w : List Token) : Type 0 where
+  pub structure : on_first on_struct w ≡ true
+  pub packed : on_first (on_word word_.KwPacked) w ≡ false
+
+pub struct_starts : (x : Struct) (rest : List Token) → StructStarts (spell (write_struct x) rest)
+unfolding same_word
+struct_starts x = struct_cases (λ x. (rest : List Token) → StructStarts (spell (write_struct x) rest)) (record {
+  array = λ ts t span rest. as_written rest (write_struct_array ts t span) (record { structure = refl; packed = refl });
+  fields = λ f span rest. as_written rest (write_struct_record f span) (record { structure = refl; packed = refl });
+  set = λ t span rest. as_written rest (write_struct_set t span) (record { structure = refl; packed = refl });
+  file = λ t span rest. as_written rest (write_struct_file t span) (record { structure = refl; packed = refl });
+}) x
+  where
+    as_written : {l m : Layout} (rest : List Token) → l ≡ m → StructStarts (spell m rest) → StructStarts (spell l rest)
+    as_written rest e h = subst (λ l. StructStarts (spell l rest)) (sym e) h
+
 -- ---- what it is to follow types and lists of fields
 
 module _ (n : Until) (W : Type 0) (d : Dialect) (k : ℕ) where
@@ -300,23 +317,6 @@ module _ (n : Until) (W : Type 0) (d : Dialect) (end : Span) (k : ℕ) (child : 
 
   struct_followed : (x : Struct) → StructRead x
   struct_followed x = struct_cases StructRead (record { array = array_read; fields = record_read; set = set_read; file = file_read }) x
-
-  -- with what a type with parts begins
-  record StructStarts (w : List Token) : Type 0 where
-    structure : on_first on_struct w ≡ true
-    packed : on_first (on_word word_.KwPacked) w ≡ false
-
-  struct_starts : (x : Struct) (rest : List Token) → StructStarts (spell (write_struct x) rest)
-  unfolding same_word
-  struct_starts x = struct_cases (λ x. (rest : List Token) → StructStarts (spell (write_struct x) rest)) (record {
-    array = λ ts t span rest. as_written rest (write_struct_array ts t span) (record { structure = refl; packed = refl });
-    fields = λ f span rest. as_written rest (write_struct_record f span) (record { structure = refl; packed = refl });
-    set = λ t span rest. as_written rest (write_struct_set t span) (record { structure = refl; packed = refl });
-    file = λ t span rest. as_written rest (write_struct_file t span) (record { structure = refl; packed = refl });
-  }) x
-    where
-      as_written : {l m : Layout} (rest : List Token) → l ≡ m → StructStarts (spell m rest) → StructStarts (spell l rest)
-      as_written rest e h = subst (λ l. StructStarts (spell l rest)) (sym e) h
 
   packed_followed : (packed : Bool) (x : Struct) (rest : List Token) (s : List Placed) → Along n (spell (optional_word word_.KwPacked packed) (spell (write_struct x) rest)) s → Followed n W (spell (write_struct x) rest) (optional_packed s)
   unfolding optional_packed same_word

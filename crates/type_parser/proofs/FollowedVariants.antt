@@ -73,16 +73,16 @@ labels_start d (x ∷ xs) formed w =
 
 -- ---- a variant, by its parts
 
-abbrev labels_of : Variant → Layout
+abbrev pub labels_of : Variant → Layout
 labels_of x = with_commas (map write_case_label (out-Variant x).labels)
 
-abbrev group_of : Variant → Layout
+abbrev pub group_of : Variant → Layout
 group_of x = symbol mark.Open & write_fields (out-Variant x).fields & symbol mark.Close
 
-variant_written : (x : Variant) → write_variant x ≡ spanned (out-Variant x).span (labels_of x & symbol mark.Colon & group_of x)
+pub variant_written : (x : Variant) → write_variant x ≡ spanned (out-Variant x).span (labels_of x & symbol mark.Colon & group_of x)
 variant_written x = ap (λ y. write_variant y) (variant_is x) ∙ write_variant_of (out-Variant x).labels (out-Variant x).fields (out-Variant x).span
 
-variant_formed : (d : Dialect) (x : Variant) → formed_variant d x ≡ (some_all (map (formed_case_label d) (out-Variant x).labels) && formed_fields d (out-Variant x).fields)
+pub variant_formed : (d : Dialect) (x : Variant) → formed_variant d x ≡ (some_all (map (formed_case_label d) (out-Variant x).labels) && formed_fields d (out-Variant x).fields)
 variant_formed d x = ap (formed_variant d) (variant_is x) ∙ formed_variant_of d (out-Variant x).labels (out-Variant x).fields (out-Variant x).span
 
 variant_spelled : (x : Variant) (w : List Token) → spell (write_variant x) w ≡ spell (labels_of x) (Symbol mark.Colon ∷ Symbol mark.Open ∷ spell (write_fields (out-Variant x).fields) (Symbol mark.Close ∷ w))
@@ -90,21 +90,21 @@ variant_spelled x w =
     let fields = write_fields (out-Variant x).fields in
     ap (λ l. spell l w) (variant_written x) ∙ spell_join (labels_of x) (symbol mark.Colon & group_of x) w ∙ ap (λ v. spell (labels_of x) (Symbol mark.Colon ∷ Symbol mark.Open ∷ v)) (spell_join fields (symbol mark.Close) w)
 
-variant_starts : (d : Dialect) (x : Variant) → IsTrue (formed_variant d x) → (w : List Token) → on_first on_constant (spell (write_variant x) w) ≡ true
+pub variant_starts : (d : Dialect) (x : Variant) → IsTrue (formed_variant d x) → (w : List Token) → on_first on_constant (spell (write_variant x) w) ≡ true
 variant_starts d x formed w =
     let labels = (and_out (some_all (map (formed_case_label d) (out-Variant x).labels)) (formed_fields d (out-Variant x).fields) (subst IsTrue (variant_formed d x) formed)).0 in
     ap (on_first on_constant) (variant_spelled x w) ∙ labels_start d (out-Variant x).labels labels _
 
-abbrev list_of : Variants → Layout
+abbrev pub list_of : Variants → Layout
 list_of x = with_semicolons (map write_variant (out-Variants x).list)
 
 abbrev pub head_of : Variants → List Token → List Token
 head_of x w = spell (write_tag (out-Variants x).tag) (spell (write_type_name (out-Variants x).of) (Word word_.KwOf ∷ w))
 
-variants_written : (x : Variants) → write_variants x ≡ spanned (out-Variants x).span (word word_.KwCase & write_tag (out-Variants x).tag & write_type_name (out-Variants x).of & word word_.KwOf & list_of x)
+pub variants_written : (x : Variants) → write_variants x ≡ spanned (out-Variants x).span (word word_.KwCase & write_tag (out-Variants x).tag & write_type_name (out-Variants x).of & word word_.KwOf & list_of x)
 variants_written x = ap (λ y. write_variants y) (variants_is x) ∙ write_variants_of (out-Variants x).tag (out-Variants x).of (out-Variants x).list (out-Variants x).span
 
-variants_formed : (d : Dialect) (x : Variants) → formed_variants d x ≡ some_all (map (formed_variant d) (out-Variants x).list)
+pub variants_formed : (d : Dialect) (x : Variants) → formed_variants d x ≡ some_all (map (formed_variant d) (out-Variants x).list)
 variants_formed d x = ap (formed_variants d) (variants_is x) ∙ formed_variants_of d (out-Variants x).tag (out-Variants x).of (out-Variants x).list (out-Variants x).span
 
 pub variants_spelled : (x : Variants) (w : List Token) → spell (write_variants x) w ≡ Word word_.KwCase ∷ head_of x (spell (list_of x) w)

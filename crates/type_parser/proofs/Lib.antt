@@ -17,3 +17,8 @@ pub mod SoundFields
 pub mod SoundFormals
 pub mod Clauses
 pub mod Examples
+pub mod ExactNames
+pub mod ExactTypes
+pub mod ExactVariants
+pub mod ExactFields
+pub mod ExactFormals
