@@ -22,3 +22,4 @@ pub mod ExactTypes
 pub mod ExactVariants
 pub mod ExactFields
 pub mod ExactFormals
+pub mod ExactLaws
