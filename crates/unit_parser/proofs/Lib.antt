@@ -1,0 +1,4 @@
+pub mod WrittenNodes
+pub mod FormedNodes
+pub mod Views
+pub mod Answered
