@@ -1,27 +1,30 @@
 -- From the parser's answer at a place to what it means in the words of the grammar.
-use Rattle.std.proofs.Common.{◌≡◌, ℕ, zero, suc, ◌+◌, ◌-◌, ◌≤◌, List, [], ◌∷◌, ◌++◌, length, drop, Result, Ok, Err, refl, sym, ap, subst, ◌∙◌, append_assoc, arith, length-append}
+use Rattle.std.proofs.Common.{◌≡◌, ℕ, Bool, zero, suc, ◌+◌, ◌-◌, ◌≤◌, List, [], ◌∷◌, ◌++◌, length, drop, Result, Ok, Err, refl, sym, ap, subst, ◌∙◌, append_assoc, arith, length-append}
 use Rattle.std.specs.List.{Contains}
 use Rattle.std.proofs.lemmas.List.Elements.{Contains-append_right}
 use Rattle.p2c_text.specs.declared.dialect.Dialect.{Dialect}
 use Rattle.p2c_text.specs.declared.place.Span.{Span}
 use Rattle.dialect_lexer.specs.FileTokens.{FileTokens}
 use Rattle.dialect_lexer.specs.Tokens.{Lexes}
-use Rattle.pascal_tree.specs.declared.expressions.Expr.{Expr}
 use Rattle.dialect_lexer.specs.declared.token.Token.{Token as LexedToken}
 use Rattle.token_parsing.specs.declared.refusal.Refusal.TheVariants as refusal
 use Rattle.token_parsing.specs.declared.refusal.ParseError.{ParseError}
 use Rattle.token_parsing.specs.declared.refusal.ParseError.TheVariants as error_
-use Rattle.token_parsing.specs.Parser.{Outcome, Fails}
+use Rattle.token_parsing.specs.Parser.{Outcome, Parser, Fails}
 use Rattle.expr_parser.specs.declared.fault.SyntaxFault.{SyntaxFault}
 use Rattle.expr_parser.specs.declared.fault.SyntaxFault.TheVariants as fault
 use Rattle.expr_parser.specs.Tokens.{Token, Placed, seen, plain}
 use Rattle.expr_parser.specs.Spans.{next_place}
 use Rattle.expr_parser.specs.Grammar.{AreTokens}
-use Rattle.expr_parser.specs.Text.{MayBegin}
-use Rattle.expr_parser.specs.Expressions.{expr}
-use Rattle.expr_parser.specs.Parsed.{end_of, Means, Answers, IsRead}
+use Rattle.expr_parser.specs.Layout.{Layout}
+use Rattle.expr_parser.specs.Text.{MayBeginIn}
+use Rattle.expr_parser.specs.Parsed.{end_of, Means, Answers, IsReadAs}
 use Rattle.expr_parser.proofs.Turns.{seen_length}
-use Rattle.expr_parser.proofs.Clauses.{read_is_longest, unexpected_is_after, too_deep_is_deep}
+use Rattle.expr_parser.proofs.Layouts.{spell}
+use Rattle.expr_parser.proofs.Followed.{Until, Along, Followed}
+use Rattle.expr_parser.proofs.FollowedParts.{Part}
+use Rattle.expr_parser.proofs.Spots.{Answer, Reads}
+use Rattle.expr_parser.proofs.Longest.{read_is_longest, unexpected_is_after, too_deep_is_deep}
 
 -- ---- the tokens of a text are those of the dialect
 
@@ -68,31 +71,6 @@ split_length zero s before rest h e = let same = ap length e in let long = lengt
 split_length (suc at) [] before rest h e = absurd (omega (arith, h))
 split_length (suc at) (t ∷ s) before rest h e = let l = split_length at s before rest (omega arith) e in omega (arith, l)
 
--- ---- answers
-
-pub answer_is_read : (d : Dialect) (bytes : List ℕ) (list : FileTokens) (at level : ℕ) (result : Result (Expr × ℕ) SyntaxFault) → Lexes d bytes list → at ≤ length (seen bytes list.tokens) → level ≤ 401
-    → Answers (end_of list.file bytes) (seen bytes list.tokens) (expr d (end_of list.file bytes) (401 - level) (drop at (seen bytes list.tokens))) result → IsRead d bytes list at level result
-answer_is_read d bytes list at level (Ok p) lexes within deep (rest, is, count) =
-    let all = seen bytes list.tokens in
-    let (tree, run, longest) = read_is_longest d (end_of list.file bytes) (401 - level) (drop at all) rest p.0 (known_from d at all (tokens_known d bytes list lexes)) is in
-    (run, rest, longest, tree, let long = split_length at all run rest within longest.is in omega (arith, count, long))
-answer_is_read d bytes list at level (Err (fault.Unexpected place)) lexes within deep (left, is, at_place) =
-    let all = seen bytes list.tokens in
-    let (run, rest, longest, long, none) = unexpected_is_after d (end_of list.file bytes) (401 - level) left (drop at all) (known_from d at all (tokens_known d bytes list lexes)) is in
-    (run, rest, longest, none, at_place ∙ ap (λ n. next_place (end_of list.file bytes) (drop (length all - n) all)) (sym long) ∙ ap (next_place (end_of list.file bytes)) (left_behind at all run rest within longest.is))
-answer_is_read d bytes list at level (Err (fault.TooDeep place)) lexes within deep (left, is, at_place) =
-    let all = seen bytes list.tokens in
-    let ((front, bad, split, long, may), none) = too_deep_is_deep d (end_of list.file bytes) level (401 - level) left (drop at all) (known_from d at all (tokens_known d bytes list lexes)) is in
-    let levels : level + (401 - level) ≡ 401 = omega arith in (
-      front,
-      bad,
-      split,
-      subst (λ n. MayBegin d level n (plain front)) levels may,
-      at_place ∙ ap (λ n. next_place (end_of list.file bytes) (drop (length all - n) all)) (sym long) ∙ ap (next_place (end_of list.file bytes)) (left_behind at all front bad within split),
-      none,
-    )
-answer_is_read d bytes list at level (Err (fault.Memory e)) lexes within deep h = tt
-
 -- ---- what the code's steps give
 
 pub refused_answers : (A : Type 0) (end : Span) (tokens : List Placed) (given : Outcome Placed A) (error : ParseError) (f : SyntaxFault) → Fails error given → Means end tokens error f → Answers {A = A} end tokens given (Err f)
@@ -100,12 +78,40 @@ refused_answers A end tokens given (error_.At (refusal.Unexpected left)) f refus
 refused_answers A end tokens given (error_.At (refusal.TooDeep left)) f refused means = subst (λ z. Answers {A = A} end tokens given (Err z)) (sym means) (left, refused, refl)
 refused_answers A end tokens given (error_.Memory e) f refused means = subst (λ z. Answers {A = A} end tokens given (Err z)) (sym means) tt
 
-pub given_is_read : (d : Dialect) (bytes : List ℕ) (list : FileTokens) (at level : ℕ) (result : Result (Expr × ℕ) SyntaxFault) (end : Span) (file : ℕ) (slice : List LexedToken)
-    → end ≡ end_of file bytes → file ≡ list.file → slice ≡ list.tokens → Lexes d bytes list → at ≤ length list.tokens → level ≤ 401
-    → Answers end (seen bytes slice) (expr d end (401 - level) (drop at (seen bytes slice))) result → IsRead d bytes list at level result
-given_is_read d bytes list at level result end file slice is_end is_file is_slice lexes within deep h =
-    let here : end ≡ end_of list.file bytes = is_end ∙ ap (λ f. end_of f bytes) is_file in
-    let of_list : Answers end (seen bytes list.tokens) (expr d end (401 - level) (drop at (seen bytes list.tokens))) result =
-    subst (λ s. Answers end (seen bytes s) (expr d end (401 - level) (drop at (seen bytes s))) result) is_slice h in
-    answer_is_read d bytes list at level result lexes (subst (λ n. at ≤ n) (sym (seen_length bytes list.tokens)) within) deep
-    (subst (λ z. Answers z (seen bytes list.tokens) (expr d z (401 - level) (drop at (seen bytes list.tokens))) result) here of_list)
+-- ---- answers of a parser as in Longest, for all ends and levels
+
+module _ (d : Dialect) {C : Type 0} (layout : C → Layout) (form : C → Bool) (p : Span → ℕ → Parser Placed C)
+    (sound : (end : Span) (k outer : ℕ) (from : List Placed) → AreTokens d (plain from) → Answer d layout form end outer k from (Reads d layout form end outer k from layout form k from) (p end k from))
+    (follows : (end : Span) (k : ℕ) (n : Until) (W : Type 0) (c : C) → Part W k (layout c) (form c) → (s : List Placed) → Along n (spell (layout c) []) s → Followed n W [] (p end k s)) where
+  answer_is_read : (bytes : List ℕ) (list : FileTokens) (at level : ℕ) (result : Result (C × ℕ) SyntaxFault) → Lexes d bytes list → at ≤ length (seen bytes list.tokens) → level ≤ 401
+      → Answers (end_of list.file bytes) (seen bytes list.tokens) (p (end_of list.file bytes) (401 - level) (drop at (seen bytes list.tokens))) result → IsReadAs d layout form bytes list at level result
+  answer_is_read bytes list at level (Ok x) lexes within deep (rest, is, count) =
+      let all = seen bytes list.tokens in let end = end_of list.file bytes in let k = 401 - level in
+      let (tree, run, longest) = read_is_longest d layout form end k (p end k) (sound end k) (follows end k) (drop at all) rest x.0 (known_from d at all (tokens_known d bytes list lexes)) is in
+      (run, rest, longest, tree, let long = split_length at all run rest within longest.is in omega (arith, count, long))
+  answer_is_read bytes list at level (Err (fault.Unexpected place)) lexes within deep (left, is, at_place) =
+      let all = seen bytes list.tokens in let end = end_of list.file bytes in let k = 401 - level in
+      let (run, rest, longest, long, none) = unexpected_is_after d layout form end k (p end k) (sound end k) (follows end k) left (drop at all) (known_from d at all (tokens_known d bytes list lexes)) is in
+      (run, rest, longest, none, at_place ∙ ap (λ n. next_place end (drop (length all - n) all)) (sym long) ∙ ap (next_place end) (left_behind at all run rest within longest.is))
+  answer_is_read bytes list at level (Err (fault.TooDeep place)) lexes within deep (left, is, at_place) =
+      let all = seen bytes list.tokens in let end = end_of list.file bytes in let k = 401 - level in
+      let ((front, bad, split, long, may), none) = too_deep_is_deep d layout form end k (p end k) (sound end k) (follows end k) level left (drop at all) (known_from d at all (tokens_known d bytes list lexes)) is in
+      let levels : level + (401 - level) ≡ 401 = omega arith in (
+        front,
+        bad,
+        split,
+        subst (λ n. MayBeginIn d layout form level n (plain front)) levels may,
+        at_place ∙ ap (λ n. next_place end (drop (length all - n) all)) (sym long) ∙ ap (next_place end) (left_behind at all front bad within split),
+        none,
+      )
+  answer_is_read bytes list at level (Err (fault.Memory e)) lexes within deep h = tt
+
+  pub given_is_read : (bytes : List ℕ) (list : FileTokens) (at level : ℕ) (result : Result (C × ℕ) SyntaxFault) (end : Span) (file : ℕ) (slice : List LexedToken)
+      → end ≡ end_of file bytes → file ≡ list.file → slice ≡ list.tokens → Lexes d bytes list → at ≤ length list.tokens → level ≤ 401
+      → Answers end (seen bytes slice) (p end (401 - level) (drop at (seen bytes slice))) result → IsReadAs d layout form bytes list at level result
+  given_is_read bytes list at level result end file slice is_end is_file is_slice lexes within deep h =
+      let here : end ≡ end_of list.file bytes = is_end ∙ ap (λ f. end_of f bytes) is_file in
+      let of_list : Answers end (seen bytes list.tokens) (p end (401 - level) (drop at (seen bytes list.tokens))) result =
+      subst (λ s. Answers end (seen bytes s) (p end (401 - level) (drop at (seen bytes s))) result) is_slice h in
+      answer_is_read bytes list at level result lexes (subst (λ n. at ≤ n) (sym (seen_length bytes list.tokens)) within) deep
+      (subst (λ z. Answers z (seen bytes list.tokens) (p z (401 - level) (drop at (seen bytes list.tokens))) result) here of_list)

@@ -15,7 +15,7 @@ pub mod FollowedTerms
 pub mod FollowedLists
 pub mod FollowedPlaces
 pub mod FollowedFactors
-pub mod Fillers
+pub mod KnownTokens
 pub mod Openings
 pub mod Spots
 pub mod SoundTokens
@@ -23,7 +23,10 @@ pub mod SoundLists
 pub mod SoundTerms
 pub mod SoundPlaces
 pub mod SoundFactors
-pub mod Clauses
+pub mod Longest
 pub mod Answered
+pub mod Clauses
 pub mod Examples
 pub mod ConstantShrinks
+pub mod FollowedConstants
+pub mod SoundConstants

@@ -24,7 +24,7 @@ use Rattle.expr_parser.proofs.Layouts.{height_join, written_join}
 use Rattle.expr_parser.proofs.WrittenNodes.{write_term_of, write_simple_of, write_expr_of, write_elem_of, write_factor_number, write_factor_text, write_factor_nil, write_factor_place, write_factor_call, write_factor_group, write_factor_not, write_factor_set}
 use Rattle.expr_parser.proofs.FormedNodes.{formed_term_of, formed_simple_of, formed_expr_of, formed_elem_of, formed_factor_number, formed_factor_text, formed_factor_nil, formed_factor_place, formed_factor_call, formed_factor_group, formed_factor_not, formed_factor_set}
 use Rattle.expr_parser.proofs.ClassTokens.{identifier_is, number_is, text_is}
-use Rattle.expr_parser.proofs.Fillers.{nil_known, bracket_known, close_known}
+use Rattle.expr_parser.proofs.KnownTokens.{nil_known, bracket_known, close_known}
 use Rattle.expr_parser.proofs.FollowedParts.{and_in}
 use Rattle.expr_parser.proofs.Openings.{Opening, within, in_counted, in_spanned, behind, before, Hole}
 use Rattle.expr_parser.proofs.Spots.{Answer, Spot, Reads, Good, spot_behind, spot_within, begins_at, deep_at}

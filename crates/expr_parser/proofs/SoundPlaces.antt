@@ -26,7 +26,7 @@ use Rattle.expr_parser.proofs.Layouts.{height_join, written_join}
 use Rattle.expr_parser.proofs.WrittenNodes.{write_optional, write_place_of, write_args_of, write_selector_index, write_selector_field, write_selector_follow, write_arg_program, write_arg_value}
 use Rattle.expr_parser.proofs.FormedNodes.{formed_optional, formed_place_of, formed_args_of, formed_selector_index, formed_selector_field, formed_selector_follow, formed_arg_program, formed_arg_value}
 use Rattle.expr_parser.proofs.ClassTokens.{identifier_is}
-use Rattle.expr_parser.proofs.Fillers.{name_known, bracket_known, close_known}
+use Rattle.expr_parser.proofs.KnownTokens.{name_known, bracket_known, close_known}
 use Rattle.expr_parser.proofs.FollowedParts.{and_in, and_out}
 use Rattle.expr_parser.proofs.Openings.{Opening, within, in_spanned, behind, before, Hole}
 use Rattle.expr_parser.proofs.Spots.{Answer, Spot, Reads, Good, spot_behind, spot_within, begins_at}

@@ -1,5 +1,5 @@
 -- Labels and constants: how each is written by its parts, and what the grammar asks of it beyond that.
-use Rattle.std.specs.Prelude.{Bool, true, false, Option, Some, None}
+use Rattle.std.specs.Prelude.{Bool, true, Option, Some, None}
 use Rattle.std.specs.Option.{option_map}
 use Rattle.p2c_text.specs.declared.dialect.Dialect.{Dialect}
 use Rattle.dialect_lexer.specs.declared.token.Symbol.TheVariants as mark

@@ -1,9 +1,8 @@
 -- Labels and constants are read. `end` is the place of the end of the text.
-use Rattle.std.specs.Prelude.{Bool, true, false, ◌&&◌, ◌||◌, ℤ, List, [], ◌∷◌, ◌++◌, Option, Some, None}
+use Rattle.std.specs.Prelude.{Bool, ◌&&◌, ◌||◌, List, [], ◌∷◌, ◌++◌, Option, Some, None}
 use Rattle.p2c_text.specs.declared.dialect.Dialect.{Dialect}
 use Rattle.p2c_text.specs.declared.place.Span.{Span}
 use Rattle.dialect_lexer.specs.declared.token.Symbol.TheVariants as mark
-use Rattle.pascal_tree.specs.declared.names.Identifier.{Identifier}
 use Rattle.pascal_tree.specs.declared.names.Label.{Label}
 use Rattle.pascal_tree.specs.declared.names.Label.TheVariants as a_label
 use Rattle.pascal_tree.specs.declared.constants.Sign.{Sign}

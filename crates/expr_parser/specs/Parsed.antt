@@ -1,5 +1,5 @@
 -- What a call of the parser answers.
-use Rattle.std.specs.Prelude.{◌≡◌, ℕ, ◌+◌, ◌-◌, List, ◌++◌, length, drop, Result, Ok, Err}
+use Rattle.std.specs.Prelude.{◌≡◌, ℕ, Bool, ◌+◌, ◌-◌, List, ◌++◌, length, drop, Result, Ok, Err}
 use Rattle.p2c_text.specs.declared.dialect.Dialect.{Dialect}
 use Rattle.p2c_text.specs.declared.place.Span.{Span}
 use Rattle.dialect_lexer.specs.FileTokens.{FileTokens}
@@ -13,7 +13,10 @@ use Rattle.expr_parser.specs.declared.fault.SyntaxFault.{SyntaxFault}
 use Rattle.expr_parser.specs.declared.fault.SyntaxFault.TheVariants as fault
 use Rattle.expr_parser.specs.Tokens.{Placed, seen, plain}
 use Rattle.expr_parser.specs.Spans.{next_place}
-use Rattle.expr_parser.specs.Text.{Derives, MayBegin, IsLongestRun, NoExpr, NoFitting}
+use Rattle.expr_parser.specs.Layout.{Layout}
+use Rattle.expr_parser.specs.Writing.{write_expr}
+use Rattle.expr_parser.specs.Grammar.{formed_expr}
+use Rattle.expr_parser.specs.Text.{IsDerived, MayBeginIn, IsLongest, NoTree, NoneFits}
 
 -- the empty place at the end of a text
 abbrev pub end_of : ℕ → List ℕ → Span
@@ -36,19 +39,23 @@ Answers end tokens given (Err (fault.Unexpected place)) = (left : ℕ) × (given
 Answers end tokens given (Err (fault.TooDeep place)) = (left : ℕ) × (given ≡ Err (refusal.TooDeep left)) × (place ≡ place_left end tokens left)
 Answers end tokens given (Err (fault.Memory e)) = Unit {0}
 
--- What an expression of this level from `at` on, of tokens of these bytes, is read as. The longest run of tokens with which an expression begins is looked at: its tree, which has no node above the level 400, and the number of tokens up
--- to its end; or the token after it, where it is no expression; or a token at which a node of the level 401 may begin, where it has no tree with fewer levels.
+-- What a tree of some kind, with outermost nodes of this level, from `at` on, of tokens of these bytes, is read as. The longest run of tokens with which such a tree begins is looked at: its tree, which has no node above the level 400, and
+-- the number of tokens up to its end; or the token after it, where it is none; or a token at which a node of the level 401 may begin, where it has no tree with fewer levels.
+abbrev pub IsReadAs : {C : Type 0} → Dialect → (C → Layout) → (C → Bool) → List ℕ → FileTokens → (at level : ℕ) → Result (C × ℕ) SyntaxFault → Type 0
+IsReadAs d layout form bytes list at level (Ok p) =
+    let end = end_of list.file bytes in
+    let from = drop at (seen bytes list.tokens) in
+    (run rest : List Placed) × IsLongest d layout form from run rest × IsDerived d layout form end (401 - level) p.0 from rest × (p.1 ≡ at + length run)
+IsReadAs d layout form bytes list at level (Err (fault.Unexpected place)) =
+    let end = end_of list.file bytes in
+    let from = drop at (seen bytes list.tokens) in
+    (run rest : List Placed) × IsLongest d layout form from run rest × NoTree d layout form run × (place ≡ next_place end rest)
+IsReadAs d layout form bytes list at level (Err (fault.TooDeep place)) =
+    let end = end_of list.file bytes in
+    let from = drop at (seen bytes list.tokens) in
+    (front bad : List Placed) × (from ≡ front ++ bad) × MayBeginIn d layout form level 401 (plain front) × (place ≡ next_place end bad) × NoneFits d layout form (401 - level) from
+IsReadAs d layout form bytes list at level (Err (fault.Memory e)) = Unit {0}
+
+-- what an expression is read as
 abbrev pub IsRead : Dialect → List ℕ → FileTokens → (at level : ℕ) → Result (Expr × ℕ) SyntaxFault → Type 0
-IsRead d bytes list at level (Ok p) =
-    let end = end_of list.file bytes in
-    let from = drop at (seen bytes list.tokens) in
-    (run rest : List Placed) × IsLongestRun d from run rest × Derives d end (401 - level) p.0 from rest × (p.1 ≡ at + length run)
-IsRead d bytes list at level (Err (fault.Unexpected place)) =
-    let end = end_of list.file bytes in
-    let from = drop at (seen bytes list.tokens) in
-    (run rest : List Placed) × IsLongestRun d from run rest × NoExpr d run × (place ≡ next_place end rest)
-IsRead d bytes list at level (Err (fault.TooDeep place)) =
-    let end = end_of list.file bytes in
-    let from = drop at (seen bytes list.tokens) in
-    (front bad : List Placed) × (from ≡ front ++ bad) × MayBegin d level 401 (plain front) × (place ≡ next_place end bad) × NoFitting d (401 - level) from
-IsRead d bytes list at level (Err (fault.Memory e)) = Unit {0}
+IsRead d bytes list at level result = IsReadAs d write_expr (formed_expr d) bytes list at level result

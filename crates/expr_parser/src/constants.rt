@@ -5,11 +5,11 @@ ghost use Rattle.expr_parser.specs.Tokens.{seen};
 ghost use Rattle.expr_parser.specs.Dialects as dialects;
 ghost use Rattle.expr_parser.specs.Constants as spec;
 
-use dialect_lexer::{Symbol, Token};
 use crate::leaves::{bytes, optional_sign, value};
 use crate::operators::{after, is_sign};
 use crate::source::{Source, span_between};
 use crate::step::{expect, identifier, is, is_identifier, is_number, is_text, same};
+use dialect_lexer::{Symbol, Token};
 use p2c_text::Dialect;
 use pascal_tree::{CaseLabel, CaseLabels, Constant, Label, Sign};
 use token_parsing::refusal::ParseError;

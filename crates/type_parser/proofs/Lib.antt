@@ -3,3 +3,5 @@ pub mod FormedNodes
 pub mod Views
 pub mod Shrinks
 pub mod Fillers
+pub mod FollowedNames
+pub mod FollowedTypes

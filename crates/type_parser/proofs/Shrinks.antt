@@ -55,7 +55,7 @@ module _ (d : Dialect) (end : Span) where
   unfolding named
   named_shrinks = then_shrinks (one_shrinks _) (λ x. pure_shrinks _)
 
-  limit_shrinks : Shrinks (optional_limit end)
+  pub limit_shrinks : Shrinks (optional_limit end)
   unfolding optional_limit
   limit_shrinks = either_shrinks (begins (symbols mark.OpenBracket)) (then_shrinks (one_shrinks _) (λ _. then_shrinks (constant_shrinks d end) (λ c. then_shrinks (one_shrinks _) (λ _. pure_shrinks _)))) (pure_shrinks _)
 

@@ -1,7 +1,12 @@
+use Rattle.expr_parser.specs.Writing.{write_expr}
+use Rattle.expr_parser.specs.Grammar.{formed_expr}
+use Rattle.expr_parser.specs.Expressions.{expr}
+use Rattle.expr_parser.proofs.Clauses.{sound, follows}
 use Rattle.expr_parser.proofs.Answered.{given_is_read}
 use Rattle.expr_parser.proofs.parsing.expression.Goals as goal
 
 pub returns : goal.returns
 returns c =
-    given_is_read c.args.dialect c.args.bytes.now c.args.tokens.now c.args.at c.args.level c.read_at.result c.end_of.result c.file.result c.as_slice.result.now c.end_of.ensures c.file.ensures c.as_slice.ensures
-    c.requires.lexes c.requires.within c.requires.level c.read_at.ensures
+    let d = c.args.dialect in
+    given_is_read d write_expr (formed_expr d) (expr d) (sound d) (follows d) c.args.bytes.now c.args.tokens.now c.args.at c.args.level c.read_at.result c.end_of.result c.file.result c.as_slice.result.now
+    c.end_of.ensures c.file.ensures c.as_slice.ensures c.requires.lexes c.requires.within c.requires.level c.read_at.ensures
