@@ -1,11 +1,13 @@
 //! The tree of a text.
 ghost use Rattle.std.specs.Prelude.{◌≤◌, length};
 ghost use Rattle.dialect_lexer.specs.Tokens.{Lexes};
-ghost use Rattle.unit_parser.specs.Parsed.{IsRead};
+ghost use Rattle.expr_parser.specs.Tokens.{seen};
+ghost use Rattle.unit_parser.specs.Files as files;
+ghost use Rattle.unit_parser.specs.Parsed.{Answers};
 ghost use Rattle.unit_parser.specs.Text.{Parses};
 
 use crate::files::file;
-use dialect_lexer::{LONGEST_INPUT, TokenList};
+use dialect_lexer::{LONGEST_INPUT, Token, TokenList};
 use expr_parser::SyntaxFault;
 use expr_parser::parsing::{LEVELS, end_of, fault_of};
 use expr_parser::source::Source;
@@ -13,25 +15,13 @@ use p2c_text::Dialect;
 use pascal_tree::SourceFile;
 use std::alloc::Global;
 
-fn read(
-    alloc: Global,
-    dialect: Dialect,
-    bytes: &[u8],
-    tokens: &TokenList,
-) -> Result<SourceFile, SyntaxFault>
-    requires { length bytes.now ≤ LONGEST_INPUT }
-    ensures { IsRead dialect bytes.now tokens.now result }
+/// A text that is all of these tokens.
+fn read(source: &Source<'_>, all: &[Token]) -> Result<SourceFile, SyntaxFault>
+    ensures { Answers source.now.end (seen source.now.bytes.now all.now) (files.file source.now.dialect source.now.end 400 (seen source.now.bytes.now all.now)) result }
 {
-    let source = Source {
-        alloc,
-        dialect,
-        bytes,
-        end: end_of(tokens.file(), bytes),
-    };
-    let all = tokens.as_slice();
-    match file(&source, all, LEVELS) {
+    match file(source, all, LEVELS) {
         Ok(file) => Ok(file),
-        Err(error) => Err(fault_of(&source, all, error)),
+        Err(error) => Err(fault_of(source, all, error)),
     }
 }
 
@@ -47,5 +37,11 @@ pub fn parse(
     requires lexed { Lexes dialect bytes.now tokens.now }
     ensures { Parses dialect bytes.now tokens.now result }
 {
-    read(alloc, dialect, bytes, tokens)
+    let source = Source {
+        alloc,
+        dialect,
+        bytes,
+        end: end_of(tokens.file(), bytes),
+    };
+    read(&source, tokens.as_slice())
 }
