@@ -5,4 +5,6 @@ pub mod Shrinks
 pub mod FollowedRows
 pub mod FollowedParts
 pub mod FollowedHeadings
+pub mod Beginnings
+pub mod FollowedDeclarations
 pub mod Answered
