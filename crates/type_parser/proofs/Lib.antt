@@ -5,3 +5,8 @@ pub mod Shrinks
 pub mod Fillers
 pub mod FollowedNames
 pub mod FollowedTypes
+pub mod FollowedRows
+pub mod FollowedVariants
+pub mod FollowedFields
+pub mod FollowedFormals
+pub mod SoundNames
