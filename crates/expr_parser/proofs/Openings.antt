@@ -98,9 +98,16 @@ before b = record {
 
 -- ---- holes
 
+-- some tree of a kind has this layout
+abbrev pub Filled : {C : Type 0} → (C → Layout) → (C → Bool) → Layout → Type 0
+Filled {C} layout form l = (c : C) × IsTrue (form c) × (layout c ≡ l)
+
+pub filled_as : {C : Type 0} (layout : C → Layout) (form : C → Bool) {a b : Layout} → a ≡ b → Filled layout form a → Filled layout form b
+filled_as layout form e h = let (c, formed, is) = h in (c, formed, is ∙ e)
+
 -- whatever stands in the opening, the whole is the layout of a tree of some kind
 pub record Hole {C A : Type 0} (d : Dialect) (layout : C → Layout) (form : C → Bool) (write : A → Layout) (formed : A → Bool) (o : Opening) : Type 0 where
-  pub at : (a : A) → IsTrue (formed a) → (c : C) × IsTrue (form c) × (layout c ≡ o.plug (write a))
+  pub at : (a : A) → IsTrue (formed a) → Filled layout form (o.plug (write a))
 
 -- a tree begins with the tokens before some place in what stands in the opening
 pub hole_begins : {C A : Type 0} {d : Dialect} {layout : C → Layout} {form : C → Bool} {write : A → Layout} {formed : A → Bool} (o : Opening) → Hole d layout form write formed o → (a : A) → IsTrue (formed a) → (v more : List Token)

@@ -35,13 +35,13 @@ use Rattle.expr_parser.proofs.SoundPlaces.{write_opt, formed_opt, optional_sound
 
 -- ---- parts that may stand where one is wanted
 
-abbrev no_span : Span
+abbrev pub no_span : Span
 no_span = record { file = 0; start = 0; end = 0; line = 0 }
 
-abbrev nil_factor : Factor
+abbrev pub nil_factor : Factor
 nil_factor = factor_.Nil no_span
 
-abbrev nil_expr : Expr
+abbrev pub nil_expr : Expr
 nil_expr = expr_of (simple_of None (term_of nil_factor [] no_span) [] no_span) None no_span
 
 nil_expr_written : write_expr nil_expr ≡ counted (spanned no_span (spanned no_span (spanned no_span (counted (spanned no_span (word word_.KwNil))))))
@@ -49,10 +49,13 @@ nil_expr_written =
     write_expr_of (simple_of None (term_of nil_factor [] no_span) [] no_span) None no_span ∙ ap (λ l. counted (spanned no_span (l & Done)))
     (write_simple_of None (term_of nil_factor [] no_span) [] no_span ∙ ap (λ l. spanned no_span (l & Done)) (write_term_of nil_factor [] no_span ∙ ap (λ l. spanned no_span (l & Done)) (write_factor_nil no_span)))
 
-nil_expr_formed : (d : Dialect) → IsTrue (formed_expr d nil_expr)
+pub nil_expr_formed : (d : Dialect) → IsTrue (formed_expr d nil_expr)
 nil_expr_formed d =
     formed_expr_of d (simple_of None (term_of nil_factor [] no_span) [] no_span) None no_span ∙ ap (λ b. b && true)
     (formed_simple_of d None (term_of nil_factor [] no_span) [] no_span ∙ ap (λ b. b && true) (formed_term_of d nil_factor [] no_span ∙ ap (λ b. b && true) (formed_factor_nil d no_span)))
+
+pub nil_expr_known : (d : Dialect) → AreTokens d (tokens_of (write_expr nil_expr))
+nil_expr_known d = subst (λ l. AreTokens d (tokens_of l)) (sym nil_expr_written) (nil_known d, tt)
 
 module _ (d : Dialect) {C : Type 0} (layout : C → Layout) (form : C → Bool) (end : Span) (outer levels : ℕ) (tokens : List Placed) (known : AreTokens d (plain tokens)) where
   abbrev AnswerT : {A : Type 0} → (A → List Placed → Type 0) → Outcome Placed A → Type 0
@@ -215,7 +218,7 @@ module _ (d : Dialect) {C : Type 0} (layout : C → Layout) (form : C → Bool) 
   expr_stops : GoodT write_expr (formed_expr d) 0 (expr d end 0)
   unfolding expr
   expr_stops o s spot hole deep =
-      deep_at d layout form end outer levels tokens spot hole deep nil_expr (nil_expr_formed d) (subst (λ l. AreTokens d (tokens_of l)) (sym nil_expr_written) (nil_known d, tt))
+      deep_at d layout form end outer levels tokens spot hole deep nil_expr (nil_expr_formed d) (nil_expr_known d)
       (subst (λ l. Contains (levels_of (outer + o.depth) (0 + length o.left) l) (0 + length o.left, outer + o.depth)) (sym nil_expr_written) (0, omega arith, refl))
 
   factor_stops : GoodT write_factor (formed_factor d) 0 (factor d end 0)

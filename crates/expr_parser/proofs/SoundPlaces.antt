@@ -11,17 +11,18 @@ use Rattle.pascal_tree.specs.declared.names.Identifier.{Identifier}
 use Rattle.pascal_tree.specs.declared.expressions.Arg.{Arg}
 use Rattle.pascal_tree.specs.declared.expressions.Arg.TheVariants as arg
 use Rattle.pascal_tree.specs.declared.expressions.Expr.{Expr}
+use Rattle.pascal_tree.specs.declared.expressions.Place.{Place}
 use Rattle.pascal_tree.specs.declared.expressions.Selector.{Selector}
 use Rattle.pascal_tree.specs.declared.expressions.Selector.TheVariants as selector
 use Rattle.token_parsing.specs.Parser.{Outcome, Parser, and_then, begins}
 use Rattle.token_parsing.proofs.Fair.{reads, fair_then, fair_either}
 use Rattle.expr_parser.specs.Tokens.{Placed, plain}
 use Rattle.expr_parser.specs.Spans.{span_between}
-use Rattle.expr_parser.specs.Layout.{Layout, Done, ◌&◌, symbol, word, in_row, with_commas, height_of, IsWritten}
+use Rattle.expr_parser.specs.Layout.{Layout, Done, ◌&◌, symbol, word, in_row, with_commas, tokens_of, height_of, IsWritten}
 use Rattle.expr_parser.specs.Writing.{identifier, optional_after as write_after, write_arg, write_args, write_expr, write_place, write_selector}
 use Rattle.expr_parser.specs.Grammar.{AreTokens, all, some_all, optional, formatted, formed_arg, formed_args, formed_expr, formed_place, formed_selector}
 use Rattle.expr_parser.specs.Classes.{identifiers, words, symbols, expect}
-use Rattle.expr_parser.specs.Places.{made, optional_after, next_expr, more_exprs, exprs, index, field, follow, selected, begins_selector, next_selector, selectors, place_of, place_from, value_arg, program_arg, begins_program, one_arg, next_arg, more_args, listed_args, args_of, args}
+use Rattle.expr_parser.specs.Places.{made, optional_after, next_expr, more_exprs, exprs, index, field, follow, selected, begins_selector, next_selector, selectors, place_of, place_from, place, value_arg, program_arg, begins_program, one_arg, next_arg, more_args, listed_args, args_of, args}
 use Rattle.expr_parser.proofs.Layouts.{height_join, written_join}
 use Rattle.expr_parser.proofs.WrittenNodes.{write_optional, write_place_of, write_args_of, write_selector_index, write_selector_field, write_selector_follow, write_arg_program, write_arg_value}
 use Rattle.expr_parser.proofs.FormedNodes.{formed_optional, formed_place_of, formed_args_of, formed_selector_index, formed_selector_field, formed_selector_follow, formed_arg_program, formed_arg_value}
@@ -33,6 +34,20 @@ use Rattle.expr_parser.proofs.Spots.{Answer, Spot, Reads, Good, spot_behind, spo
 use Rattle.expr_parser.proofs.SoundTokens.{written_node, written_name, answer_token, answer_symbol, answer_word, answer_mark}
 use Rattle.expr_parser.proofs.SoundLists.{listed, Pushed, row_sound, list_sound}
 use Rattle.expr_parser.proofs.SoundTerms.{reads_as}
+
+-- ---- a place that may stand where one is wanted
+
+abbrev a_name : Identifier
+a_name = record { name = 97 ∷ []; span = record { file = 0; start = 0; end = 0; line = 0 } }
+
+abbrev pub a_place : Place
+a_place = place_of a_name [] a_name.span
+
+pub a_place_formed : (d : Dialect) → IsTrue (formed_place d a_place)
+a_place_formed d = formed_place_of d a_name [] a_name.span
+
+pub a_place_known : (d : Dialect) → AreTokens d (tokens_of (write_place a_place))
+a_place_known d = subst (λ l. AreTokens d (tokens_of l)) (sym (write_place_of a_name [] a_name.span)) (name_known d, tt)
 
 module _ (d : Dialect) {C : Type 0} (layout : C → Layout) (form : C → Bool) (end : Span) (outer levels : ℕ) (tokens : List Placed) (known : AreTokens d (plain tokens)) where
   abbrev AnswerT : {A : Type 0} → (A → List Placed → Type 0) → Outcome Placed A → Type 0
@@ -158,6 +173,12 @@ module _ (d : Dialect) {C : Type 0} (layout : C → Layout) (form : C → Bool) 
         let span = span_between end from r in let fits = h.fits in
         reads (place_of i xs span) r (reads_as d layout form end outer levels tokens known (write_place_of i xs span) (formed_place_of d i xs span)
         (written_node end (identifier i & in_row (map write_selector xs)) _ _ (written_join end (identifier i) (in_row (map write_selector xs)) from s r w0 h.written)) h.formed (omega (arith, fits))))
+
+    pub place_sound : GoodT write_place (formed_place d) k (place end child)
+    unfolding place
+    place_sound o s spot hole deep =
+        answer_token d layout form end outer levels tokens identifiers s spot (begins_at d layout form end outer levels tokens spot hole a_place (a_place_formed d) (a_place_known d))
+        (λ t i r is e. place_from_sound o s spot hole deep i r (written_name end i t r e (identifier_is t.token t.span i is)))
 
     -- ---- arguments
 

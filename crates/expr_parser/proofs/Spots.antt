@@ -9,10 +9,10 @@ use Rattle.token_parsing.specs.declared.refusal.Refusal.TheVariants.{TooDeep}
 use Rattle.token_parsing.specs.Parser.{Parser, Outcome}
 use Rattle.token_parsing.proofs.Fair.{Fair, stops}
 use Rattle.expr_parser.specs.Tokens.{Token, Placed, plain}
-use Rattle.expr_parser.specs.Layout.{Layout, tokens_of, height_of, levels_of, IsWritten}
+use Rattle.expr_parser.specs.Layout.{Layout, ◌&◌, tokens_of, height_of, levels_of, IsWritten}
 use Rattle.expr_parser.specs.Grammar.{AreTokens}
 use Rattle.expr_parser.specs.Text.{Begins, MayBeginIn}
-use Rattle.expr_parser.proofs.Layouts.{written_taken}
+use Rattle.expr_parser.proofs.Layouts.{tokens_join, written_taken}
 use Rattle.expr_parser.proofs.Openings.{Opening, within, behind, Hole, hole_begins}
 
 pub are_both : (d : Dialect) (a b : List Token) → AreTokens d a → AreTokens d b → AreTokens d (a ++ b)
@@ -22,6 +22,9 @@ are_both d (t ∷ a) b h k = (h.0, are_both d a b h.1 k)
 pub are_first : (d : Dialect) (a b : List Token) → AreTokens d (a ++ b) → AreTokens d a
 are_first d [] b h = tt
 are_first d (t ∷ a) b h = (h.0, are_first d a b h.1)
+
+pub are_joined : (d : Dialect) (a b : Layout) → AreTokens d (tokens_of a) → AreTokens d (tokens_of b) → AreTokens d (tokens_of (a & b))
+are_joined d a b h k = subst (AreTokens d) (sym (tokens_join a b)) (are_both d (tokens_of a) (tokens_of b) h k)
 
 module _ (d : Dialect) {C : Type 0} (layout : C → Layout) (form : C → Bool) (end : Span) (outer levels : ℕ) (all : List Placed) where
   -- before an unexpected token a tree begins, and before what is too deep a node of the next level may begin

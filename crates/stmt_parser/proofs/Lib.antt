@@ -1,0 +1,16 @@
+pub mod WrittenStatements
+pub mod FormedStatements
+pub mod StatementViews
+pub mod Shrinks
+pub mod Ends
+pub mod Begun
+pub mod FollowedRows
+pub mod FollowedSimple
+pub mod FollowedStatements
+pub mod FollowedArms
+pub mod FollowedCases
+pub mod FollowedLabels
+pub mod FollowedLevels
+pub mod SoundRows
+pub mod SoundStatements
+pub mod SoundSimple

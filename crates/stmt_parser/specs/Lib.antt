@@ -1,0 +1,9 @@
+pub mod Classes
+pub mod Statements
+pub mod Cases
+pub mod Levels
+pub mod Parsed
+pub mod Writing
+pub mod Grammar
+pub mod Text
+pub mod Laws

@@ -1,0 +1,18 @@
+//! The trees of statements.
+//!
+//! A text is read by recursive descent. `specs/Levels.antt` and the files that it uses say, as
+//! parsers of a few parts, what each production gives; each function states by one clause that it
+//! returns what its parser gives. How each tree is written, by tokens and by nodes with their spans,
+//! stands apart from that in `specs/Writing.antt`, and which trees the grammar has in
+//! `specs/Grammar.antt`.
+#![tactic(auto)]
+
+pub mod descent;
+mod headers;
+pub mod parsing;
+mod rests;
+mod simple;
+#[cfg(test)]
+mod tests;
+
+pub use parsing::statement;
