@@ -33,7 +33,8 @@ use Rattle.expr_parser.proofs.FollowedFactors.{expr_followed}
 use Rattle.expr_parser.proofs.Lookahead.{looks_name, looks_word, on_name, on_word, accepts_name, accepts_symbol}
 use Rattle.type_parser.specs.Levels.{type_node, formals}
 use Rattle.type_parser.proofs.Shrinks.{type_shrinks, formals_shrinks, optional_formals_shrinks}
-use Rattle.type_parser.proofs.FollowedTypes.{TypeFollowed}
+use Rattle.type_parser.proofs.FollowedFields.{type_followed}
+use Rattle.type_parser.proofs.FollowedFormals.{formals_followed}
 use Rattle.unit_parser.specs.Writing.{write_stmts, write_heading, write_declaration, write_body, write_block, write_routine}
 use Rattle.unit_parser.specs.Grammar.{Judged, judged_declaration, formed_heading, formed_body, formed_block, formed_routine, formed_declarations, formed_stmts}
 use Rattle.unit_parser.specs.Parts.{label_part, const_part, type_part, var_part, procedure_heading, function_heading, heading}
@@ -44,7 +45,7 @@ use Rattle.unit_parser.proofs.FormedNodes.{judged_declaration_labels, judged_dec
 use Rattle.unit_parser.proofs.Shrinks.{labels_shrinks, next_const_definition_shrinks, const_definitions_shrinks, next_type_definition_shrinks, type_definitions_shrinks, next_var_section_shrinks, var_sections_shrinks, optional_result_shrinks, routine_body_shrinks, declaration_shrinks}
 use Rattle.unit_parser.proofs.FollowedRows.{row_followed}
 use Rattle.unit_parser.proofs.FollowedParts.{label_part_followed, const_part_followed, type_part_followed, var_part_followed}
-use Rattle.unit_parser.proofs.FollowedHeadings.{FormalsFollowed, heading_followed}
+use Rattle.unit_parser.proofs.FollowedHeadings.{heading_followed}
 use Rattle.unit_parser.proofs.Beginnings.{on_declaration, on_routine, looks_declaration, looks_routine, opens_name, opens_declaration, Closed, closed_name, closed_declaration, place_of_labels, place_of_constants, place_of_types, place_of_variables, other_word, routine_written, routine_start, declaration_start}
 
 -- ---- what begins with a word takes it
@@ -190,8 +191,7 @@ module _ (n : Until) (W : Type 0) (d : Dialect) (k : ℕ) where
   abbrev pub BlockFollowed : Parser Placed Block → Type 0
   BlockFollowed p = (x : Block) → Part W k (write_block d x) (formed_block d x) → (rest : List Token) (s : List Placed) → Along n (spell (write_block d x) rest) s → Followed n W rest (p s)
 
-module _ (n : Until) (W : Type 0) (d : Dialect) (end : Span) (k : ℕ) (types : TypeFollowed n W d k (type_node d end k)) (parameters : FormalsFollowed n W end k (formals end k))
-    (inner : Parser Placed Block) (inner_shrinks : Shrinks inner) (inner_good : BlockFollowed n W d k inner) where
+module _ (n : Until) (W : Type 0) (d : Dialect) (end : Span) (k : ℕ) (inner : Parser Placed Block) (inner_shrinks : Shrinks inner) (inner_good : BlockFollowed n W d k inner) where
   -- ---- routines
 
   abbrev BodyLaw : RoutineBody → Type 0
@@ -220,7 +220,7 @@ module _ (n : Until) (W : Type 0) (d : Dialect) (end : Span) (k : ℕ) (types : 
       let tail = symbol mark.Semicolon & low & symbol mark.Semicolon in
       let p = part_inside (top & tail) (part_as (routine_written d x) (routine_formed d x) part) in
       let q = part_left low (symbol mark.Semicolon) (part_right (symbol mark.Semicolon) (low & symbol mark.Semicolon) (part_second top tail _ _ p)) in
-      follow_then (heading_followed n W end k (formals end k) (formals_shrinks end k) parameters (out-Routine x).heading (part_first top tail _ _ p) (spell low (Symbol mark.Semicolon ∷ rest)) s
+      follow_then (heading_followed n W end k (formals end k) (formals_shrinks end k) (formals_followed n W end k) (out-Routine x).heading (part_first top tail _ _ p) (spell low (Symbol mark.Semicolon ∷ rest)) s
       (along_as (ap (λ l. spell l rest) (routine_written d x) ∙ spell_join top tail rest ∙ ap (λ w. spell top (Symbol mark.Semicolon ∷ w)) (spell_join low (symbol mark.Semicolon) rest)) h))
       (λ y. then_shrinks (one_shrinks _) (λ _. then_shrinks (routine_body_shrinks d end k inner inner_shrinks) (λ b. then_shrinks (one_shrinks _) (λ u. λ m r k. pure_shrinks _ m r k)))) (λ y r h.
       follow_token (symbols mark.Semicolon) (accepts_symbol mark.Semicolon) h (λ _. then_shrinks (routine_body_shrinks d end k inner inner_shrinks) (λ b. then_shrinks (one_shrinks _) (λ u. λ m r k. pure_shrinks _ m r k))) (λ _ r h.
@@ -253,7 +253,7 @@ module _ (n : Until) (W : Type 0) (d : Dialect) (end : Span) (k : ℕ) (types : 
       let h = along_as (ap (λ l. spell l rest) (write_declaration_types d p)) h0 in
       let q = part_as (write_declaration_types d p) (ap (λ (j : Judged). j.formed) (judged_declaration_types d p)) part in
       follow_second _ _ _ (looks_at (looks_word word_.KwLabel) h) (follow_second _ _ _ (looks_at (looks_word word_.KwConst) h) (follow_first _ _ _ (looks_at (looks_word word_.KwType) h)
-      (follow_then (type_part_followed n W d end k (type_node d end k) (type_shrinks d end k) types p q rest closed s h) (λ x. pure_shrinks _) (λ x r h. follow_pure _ h))))
+      (follow_then (type_part_followed n W d end k (type_node d end k) (type_shrinks d end k) (type_followed n W d end k) p q rest closed s h) (λ x. pure_shrinks _) (λ x r h. follow_pure _ h))))
 
   variables_law : (p : VarPart) → DeclarationLaw (declaration_.Variables p)
   unfolding declaration variables_declared same_word
@@ -261,7 +261,7 @@ module _ (n : Until) (W : Type 0) (d : Dialect) (end : Span) (k : ℕ) (types : 
       let h = along_as (ap (λ l. spell l rest) (write_declaration_variables d p)) h0 in
       let q = part_as (write_declaration_variables d p) (ap (λ (j : Judged). j.formed) (judged_declaration_variables d p)) part in
       follow_second _ _ _ (looks_at (looks_word word_.KwLabel) h) (follow_second _ _ _ (looks_at (looks_word word_.KwConst) h) (follow_second _ _ _ (looks_at (looks_word word_.KwType) h) (follow_first _ _ _ (looks_at (looks_word word_.KwVar) h)
-      (follow_then (var_part_followed n W d end k (type_node d end k) (type_shrinks d end k) types p q rest closed s h) (λ x. pure_shrinks _) (λ x r h. follow_pure _ h)))))
+      (follow_then (var_part_followed n W d end k (type_node d end k) (type_shrinks d end k) (type_followed n W d end k) p q rest closed s h) (λ x. pure_shrinks _) (λ x r h. follow_pure _ h)))))
 
   routine_law : (p : Routine) → DeclarationLaw (declaration_.Routine p)
   unfolding declaration routine_declared

@@ -9,7 +9,7 @@ use Rattle.dialect_lexer.specs.declared.token.Word.TheVariants as word_
 use Rattle.dialect_lexer.specs.declared.token.Symbol.TheVariants as mark
 use Rattle.pascal_tree.specs.declared.names.Identifier.{Identifier}
 use Rattle.pascal_tree.specs.declared.types.TypeName.{TypeName}
-use Rattle.pascal_tree.specs.declared.declarations.Formals.{Formals, out-Formals}
+use Rattle.pascal_tree.specs.declared.declarations.Formals.{Formals}
 use Rattle.pascal_tree.specs.declared.declarations.Heading.{Heading}
 use Rattle.pascal_tree.specs.declared.declarations.Heading.TheVariants as heading_
 use Rattle.token_parsing.specs.Parser.{Parser, begins}
@@ -26,11 +26,8 @@ use Rattle.expr_parser.proofs.FollowedParts.{Part, part_left, part_right, part_i
 use Rattle.expr_parser.proofs.Lookahead.{looks_word, looks_symbol, on_symbol, accepts_name, accepts_word, accepts_symbol}
 use Rattle.type_parser.specs.Writing.{write_formals}
 use Rattle.type_parser.specs.Grammar.{formed_formals}
-use Rattle.type_parser.specs.Formals.{optional_formals, result}
-use Rattle.type_parser.proofs.Views.{formals_is}
-use Rattle.type_parser.proofs.WrittenNodes.{write_formals_of}
-use Rattle.type_parser.proofs.Shrinks.{type_name_shrinks, optional_formals_shrinks}
-use Rattle.type_parser.proofs.FollowedNames.{type_name_followed}
+use Rattle.type_parser.proofs.Shrinks.{optional_formals_shrinks}
+use Rattle.type_parser.proofs.FollowedFormals.{FormalEnds, FormalsFollowed, result_followed, optional_formals_followed}
 use Rattle.unit_parser.specs.Writing.{optional_result as write_result, write_heading}
 use Rattle.unit_parser.specs.Grammar.{formed_heading}
 use Rattle.unit_parser.specs.Parts.{procedure_heading, optional_result, function_heading, heading}
@@ -39,39 +36,20 @@ use Rattle.unit_parser.proofs.Shrinks.{optional_result_shrinks}
 abbrev write_optional : Option Formals → Layout
 write_optional f = optional_part (option_map write_formals f)
 
-abbrev formed_optional : Option Formals → Bool
-formed_optional f = optional (option_map formed_formals f)
-
-formals_start : (f : Formals) (rest : List Token) → (w : List Token) × (spell (write_formals f) rest ≡ Symbol mark.Open ∷ w)
-formals_start f rest = (_, ap (λ x. spell (write_formals x) rest) (formals_is f) ∙ ap (λ l. spell l rest) (write_formals_of (out-Formals f).list (out-Formals f).span))
-
 module _ (n : Until) (W : Type 0) (end : Span) (k : ℕ) where
-  -- what it is to follow formal parameters
-  abbrev pub FormalsFollowed : Parser Placed Formals → Type 0
-  FormalsFollowed p = (f : Formals) → Part W k (write_formals f) (formed_formals f) → (rest : List Token) (s : List Placed) → Along n (spell (write_formals f) rest) s → Followed n W rest (p s)
-
-  -- formal parameters, or none before a token that is no parenthesis
-  module _ (child : Parser Placed Formals) (shrinks : Shrinks child) (good : FormalsFollowed child) where
-    formals_followed : (f : Option Formals) → Part W k (write_optional f) (formed_optional f) → (x : Token) → on_symbol mark.Open x ≡ false → (w : List Token) (s : List Placed) → Along n (spell (write_optional f) (x ∷ w)) s
-        → Followed n W (x ∷ w) (optional_formals child s)
-    unfolding optional_formals same_symbol
-    formals_followed None part x other w s h = follow_second _ _ _ (looks_at (looks_symbol mark.Open) h ∙ other) (follow_pure _ h)
-    formals_followed (Some f) part x other w s h =
-        let (v, is) = formals_start f (x ∷ w) in
-        follow_first _ _ _ (looks_at (looks_symbol mark.Open) (along_as is h)) (follow_then (good f (record { formed = part.formed; fits = part.fits }) (x ∷ w) s h) (λ a. pure_shrinks _) (λ a r h. follow_pure _ h))
-
-    result_followed : (t : Option TypeName) (w : List Token) (s : List Placed) → Along n (spell (write_result t) (Symbol mark.Semicolon ∷ w)) s → Followed n W (Symbol mark.Semicolon ∷ w) (optional_result end s)
-    unfolding optional_result result same_symbol
-    result_followed None w s h = follow_second _ _ _ (looks_at (looks_symbol mark.Colon) h) (follow_pure _ h)
-    result_followed (Some t) w s h =
-        follow_first _ _ _ (looks_at (looks_symbol mark.Colon) h) (follow_then (follow_token (symbols mark.Colon) (accepts_symbol mark.Colon) h (λ _. type_name_shrinks end) (λ _ r h. type_name_followed n W end t (Symbol mark.Semicolon ∷ w) r h))
-        (λ a. pure_shrinks _) (λ a r h. follow_pure _ h))
+  -- a result, or none before a semicolon
+  module _ (child : Parser Placed Formals) (shrinks : Shrinks child) (good : FormalsFollowed n W k child) where
+    optional_result_followed : (t : Option TypeName) (w : List Token) (s : List Placed) → Along n (spell (write_result t) (Symbol mark.Semicolon ∷ w)) s → Followed n W (Symbol mark.Semicolon ∷ w) (optional_result end s)
+    unfolding optional_result same_symbol
+    optional_result_followed None w s h = follow_second _ _ _ (looks_at (looks_symbol mark.Colon) h) (follow_pure _ h)
+    optional_result_followed (Some t) w s h =
+        follow_first _ _ _ (looks_at (looks_symbol mark.Colon) h) (follow_then (result_followed n W end t (Symbol mark.Semicolon ∷ w) s h) (λ a. pure_shrinks _) (λ a r h. follow_pure _ h))
 
     -- what follows formal parameters before a result, or none, and a semicolon
-    result_start : (t : Option TypeName) (w : List Token) → (x : Token) × (v : List Token) × (spell (write_result t) (Symbol mark.Semicolon ∷ w) ≡ x ∷ v) × (on_symbol mark.Open x ≡ false)
+    result_ends : (t : Option TypeName) (w : List Token) → FormalEnds (spell (write_result t) (Symbol mark.Semicolon ∷ w))
     unfolding same_symbol
-    result_start None w = (Symbol mark.Semicolon, w, refl, refl)
-    result_start (Some t) w = (Symbol mark.Colon, _, refl, refl)
+    result_ends None w = record { some = λ e. absurd cc; formals = refl }
+    result_ends (Some t) w = record { some = λ e. absurd cc; formals = refl }
 
     pub heading_followed : (h : Heading) → Part W k (write_heading h) (formed_heading h) → (w : List Token) (s : List Placed) → Along n (spell (write_heading h) (Symbol mark.Semicolon ∷ w)) s → Followed n W (Symbol mark.Semicolon ∷ w) (heading end child s)
     unfolding heading procedure_heading function_heading same_word same_symbol
@@ -81,13 +59,12 @@ module _ (n : Until) (W : Type 0) (end : Span) (k : ℕ) where
         follow_second _ _ _ (looks_at (looks_word word_.KwFunction) h) (follow_token (words word_.KwProcedure) (accepts_word word_.KwProcedure) h
         (λ _. then_shrinks (one_shrinks _) (λ x. then_shrinks (optional_formals_shrinks end child shrinks) (λ f. λ n r k. pure_shrinks _ n r k))) (λ _ r h.
         follow_token identifiers (accepts_name name.name) h (λ x. then_shrinks (optional_formals_shrinks end child shrinks) (λ f. λ n r k. pure_shrinks _ n r k)) (λ x r h.
-        follow_then (formals_followed formals p (Symbol mark.Semicolon) refl w r h) (λ f. λ n r k. pure_shrinks _ n r k) (λ f r h. follow_pure _ h))))
+        follow_then (optional_formals_followed n W end k child shrinks good formals p (Symbol mark.Semicolon ∷ w) (result_ends None w) r h) (λ f. λ n r k. pure_shrinks _ n r k) (λ f r h. follow_pure _ h))))
     heading_followed (heading_.Function name formals t span) part w s h =
         let f = write_optional formals in
         let p = part_left f (write_result t) (part_right (word word_.KwFunction & identifier name) (f & write_result t) (part_inside (word word_.KwFunction & identifier name & f & write_result t) part)) in
-        let (x, v, is, other) = result_start t w in
         follow_first _ _ _ (looks_at (looks_word word_.KwFunction) h) (follow_token (words word_.KwFunction) (accepts_word word_.KwFunction) h
         (λ _. then_shrinks (one_shrinks _) (λ x. then_shrinks (optional_formals_shrinks end child shrinks) (λ f. then_shrinks (optional_result_shrinks dialect.Iso end child shrinks) (λ t. λ n r k. pure_shrinks _ n r k)))) (λ _ r h.
         follow_token identifiers (accepts_name name.name) h (λ x. then_shrinks (optional_formals_shrinks end child shrinks) (λ f. then_shrinks (optional_result_shrinks dialect.Iso end child shrinks) (λ t. λ n r k. pure_shrinks _ n r k))) (λ y r h.
-        follow_then (formals_followed formals p x other v r (along_as (spell_join f (write_result t) (Symbol mark.Semicolon ∷ w) ∙ ap (λ z. spell f z) is) h)) (λ f. then_shrinks (optional_result_shrinks dialect.Iso end child shrinks) (λ t. λ n r k. pure_shrinks _ n r k)) (λ f r h.
-        follow_then (result_followed t w r (along_as (sym is) h)) (λ t. λ n r k. pure_shrinks _ n r k) (λ t r h. follow_pure _ h)))))
+        follow_then (optional_formals_followed n W end k child shrinks good formals p (spell (write_result t) (Symbol mark.Semicolon ∷ w)) (result_ends t w) r (along_as (spell_join f (write_result t) (Symbol mark.Semicolon ∷ w)) h)) (λ f. then_shrinks (optional_result_shrinks dialect.Iso end child shrinks) (λ t. λ n r k. pure_shrinks _ n r k)) (λ f r h.
+        follow_then (optional_result_followed t w r h) (λ t. λ n r k. pure_shrinks _ n r k) (λ t r h. follow_pure _ h)))))
