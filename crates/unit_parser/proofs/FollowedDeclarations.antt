@@ -94,6 +94,23 @@ unfolding begins
 procedure_is [] e a = absurd cc
 procedure_is (t ∷ s) e a = procedure_token_is t.token e a
 
+routine_declared_is : (w : WordSymbol) → is_some (routine_word_of w) ≡ true → is_some (declaration_word_of w) ≡ true
+routine_declared_is word_.KwProcedure e = refl
+routine_declared_is word_.KwFunction e = refl
+routine_declared_is _ e = absurd cc
+
+routine_token_is : (x : Token) → on_routine x ≡ true → on_declaration x ≡ true
+routine_token_is (Word w) e = routine_declared_is w e
+routine_token_is (Name n) e = absurd cc
+routine_token_is (Number v) e = absurd cc
+routine_token_is (Text bs) e = absurd cc
+routine_token_is (Symbol s) e = absurd cc
+
+routine_word_is : (s : List Placed) → begins routine_words s ≡ true → begins declaration_words s ≡ true
+unfolding begins
+routine_word_is [] e = absurd cc
+routine_word_is (t ∷ s) e = routine_token_is t.token e
+
 module _ (d : Dialect) (end : Span) where
   module _ (child : Parser Placed Formals) (shrinks : Shrinks child) where
     pub heading_begun : Begun (begins routine_words) (heading end child)
@@ -142,7 +159,7 @@ module _ (d : Dialect) (end : Span) where
     var_part_takes s = takes_token (words word_.KwVar) s (λ _. then_shrinks (next_var_section_shrinks d end (type_node d end k) (type_shrinks d end k) []) (λ x. then_shrinks (var_sections_shrinks d end (type_node d end k) (type_shrinks d end k) x) (λ all. λ n r k. pure_shrinks _ n r k)))
 
     module _ (inner : Parser Placed Block) (inner_shrinks : Shrinks inner) where
-      declaration_begun : Begun (begins declaration_words) (declaration d end k inner)
+      pub declaration_begun : Begun (begins declaration_words) (declaration d end k inner)
       unfolding declaration labels_declared constants_declared types_declared variables_declared routine_declared routine
       declaration_begun s e =
           chosen (begins (words word_.KwLabel) s) (λ test. short_then (label_part_begun s test) (λ p. pure_shrinks _)) (λ a.
@@ -152,7 +169,10 @@ module _ (d : Dialect) (end : Span) where
           short_then (short_then (heading_begun (formals end k) (formals_shrinks end k) s (last_is s e a b c f))
           (λ x. then_shrinks (one_shrinks _) (λ _. then_shrinks (routine_body_shrinks d end k inner inner_shrinks) (λ b. then_shrinks (one_shrinks _) (λ u. λ m r k. pure_shrinks _ m r k))))) (λ r. pure_shrinks _)))))
 
-      declaration_takes : (s : List Placed) → Takes (length s) (declaration d end k inner s)
+      pub routine_begun : Begun (begins routine_words) (declaration d end k inner)
+      routine_begun s e = declaration_begun s (routine_word_is s e)
+
+      pub declaration_takes : (s : List Placed) → Takes (length s) (declaration d end k inner s)
       unfolding declaration labels_declared constants_declared types_declared variables_declared routine_declared routine
       declaration_takes s =
           takes_either (length s) (begins (words word_.KwLabel) s) _ _ (takes_then (length s) _ (label_part_takes s) (λ p. pure_shrinks _))

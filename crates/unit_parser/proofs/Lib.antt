@@ -6,5 +6,7 @@ pub mod FollowedRows
 pub mod FollowedParts
 pub mod FollowedHeadings
 pub mod Beginnings
+pub mod Order
 pub mod FollowedDeclarations
+pub mod FollowedBlocks
 pub mod Answered
