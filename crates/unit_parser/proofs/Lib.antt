@@ -9,4 +9,6 @@ pub mod Beginnings
 pub mod Order
 pub mod FollowedDeclarations
 pub mod FollowedBlocks
+pub mod FirstWords
+pub mod FollowedFiles
 pub mod Answered
