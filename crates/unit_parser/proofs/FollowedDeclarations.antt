@@ -50,7 +50,7 @@ use Rattle.unit_parser.proofs.Beginnings.{on_declaration, on_routine, looks_decl
 
 -- ---- what begins with a word takes it
 
-chosen : {A : Type 0} {m : ℕ} (b : Bool) {o o' : Outcome Placed A} → (b ≡ true → Shorter m 0 o) → (b ≡ false → Shorter m 0 o') → Shorter m 0 (elim b [ true ↦ o | false ↦ o' ])
+pub chosen : {A : Type 0} {m : ℕ} (b : Bool) {o o' : Outcome Placed A} → (b ≡ true → Shorter m 0 o) → (b ≡ false → Shorter m 0 o') → Shorter m 0 (elim b [ true ↦ o | false ↦ o' ])
 chosen true h k = h refl
 chosen false h k = k refl
 
