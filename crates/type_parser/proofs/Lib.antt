@@ -10,3 +10,9 @@ pub mod FollowedVariants
 pub mod FollowedFields
 pub mod FollowedFormals
 pub mod SoundNames
+pub mod SoundTypes
+pub mod SoundRows
+pub mod SoundVariants
+pub mod SoundFields
+pub mod SoundFormals
+pub mod Clauses

@@ -1,9 +1,8 @@
 pub mod Writing
 pub mod Grammar
-pub mod Text
 pub mod Names
 pub mod Types
 pub mod Fields
 pub mod Formals
 pub mod Levels
-pub mod Laws
+pub mod Parsed

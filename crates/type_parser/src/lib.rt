@@ -5,14 +5,19 @@
 //! returns what its parser gives. How each tree is written, by tokens and by nodes with their spans,
 //! stands apart from that in `specs/Writing.antt`, and which trees the grammar has in
 //! `specs/Grammar.antt`.
+//!
+//! `proofs/Sound*` shows what is read and that a tree begins with the tokens before a refused one;
+//! `proofs/Followed*` that the tokens of each tree are followed to their end.
 #![tactic(auto)]
 
 mod fields;
 pub mod formals;
 pub mod names;
+pub mod parsing;
 mod simple;
 #[cfg(test)]
 mod tests;
 pub mod types;
 
+pub use parsing::{formals_at, type_at};
 pub use types::type_node;
