@@ -25,7 +25,7 @@ if_true_is : {A : Type 0} (x a : A) (b : Bool) → if_true x b ≡ Some a → b 
 if_true_is x a true e = refl
 if_true_is x a false e = absurd cc
 
-some_is : {A : Type 0} (f : A → Token) (t : Token) (a b : A) → Some a ≡ Some b → t ≡ f a → t ≡ f b
+pub some_is : {A : Type 0} (f : A → Token) (t : Token) (a b : A) → Some a ≡ Some b → t ≡ f a → t ≡ f b
 some_is f t a b e h = let same : a ≡ b = cc in h ∙ ap f same
 
 pub symbol_is : (m : SpecialSymbol) (t : Token) (a : Unit {0}) → symbol_of m t ≡ Some a → t ≡ Symbol m

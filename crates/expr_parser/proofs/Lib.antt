@@ -30,3 +30,4 @@ pub mod Examples
 pub mod ConstantShrinks
 pub mod FollowedConstants
 pub mod SoundConstants
+pub mod WordsKnown

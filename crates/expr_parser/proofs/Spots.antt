@@ -23,6 +23,10 @@ pub are_first : (d : Dialect) (a b : List Token) → AreTokens d (a ++ b) → Ar
 are_first d [] b h = tt
 are_first d (t ∷ a) b h = (h.0, are_first d a b h.1)
 
+pub are_last : (d : Dialect) (a b : List Token) → AreTokens d (a ++ b) → AreTokens d b
+are_last d [] b h = h
+are_last d (t ∷ a) b h = are_last d a b h.1
+
 pub are_joined : (d : Dialect) (a b : Layout) → AreTokens d (tokens_of a) → AreTokens d (tokens_of b) → AreTokens d (tokens_of (a & b))
 are_joined d a b h k = subst (AreTokens d) (sym (tokens_join a b)) (are_both d (tokens_of a) (tokens_of b) h k)
 

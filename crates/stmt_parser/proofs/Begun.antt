@@ -1,5 +1,5 @@
 -- What follows a test of the next token takes that token.
-use Rattle.std.proofs.Common.{◌≡◌, ℕ, Bool, true, List, [], ◌∷◌, length, Some, Ok}
+use Rattle.std.proofs.Common.{List, Some, Ok}
 use Rattle.p2c_text.specs.declared.dialect.Dialect.{Dialect}
 use Rattle.p2c_text.specs.declared.place.Span.{Span}
 use Rattle.dialect_lexer.specs.declared.token.Word.{Word as WordSymbol}
@@ -15,7 +15,7 @@ use Rattle.expr_parser.specs.Classes.{identifiers, words, symbols, expect_word}
 use Rattle.expr_parser.specs.Places.{args}
 use Rattle.expr_parser.proofs.Shrinks.{listed_args_shrinks}
 use Rattle.expr_parser.proofs.Followed.{Begun, begun_token}
-use Rattle.stmt_parser.specs.Statements.{between, goto, call_with, named, compound, optional_else, conditional, while_loop, repeat_loop, for_loop, with_places, try_block}
+use Rattle.stmt_parser.specs.Statements.{between, goto, call_with, named, compound, conditional, while_loop, repeat_loop, for_loop, with_places, try_block}
 use Rattle.stmt_parser.specs.Cases.{case_of}
 use Rattle.expr_parser.proofs.ConstantShrinks.{label_shrinks}
 use Rattle.stmt_parser.proofs.Shrinks.{after_name_shrinks, limits_shrinks, places_shrinks, stmts_shrinks, optional_else_shrinks, arms_shrinks, semicolon_shrinks, optional_rest_shrinks}

@@ -1,6 +1,5 @@
 -- What may follow a statement: a token with which it does not go on.
 use Rattle.std.proofs.Common.{◌≡◌, Bool, true, false, List, [], ◌∷◌, refl}
-use Rattle.dialect_lexer.specs.declared.token.Word.{Word as WordSymbol}
 use Rattle.dialect_lexer.specs.declared.token.Word.TheVariants as word_
 use Rattle.dialect_lexer.specs.declared.token.Symbol.TheVariants as mark
 use Rattle.expr_parser.specs.Tokens.{Token, Word, Symbol}

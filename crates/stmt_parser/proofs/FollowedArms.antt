@@ -1,5 +1,5 @@
 -- The arms of a `case` in a text are followed.
-use Rattle.std.proofs.Common.{◌≡◌, ◌⊎◌, inl, inr, ℕ, zero, suc, ◌<◌, ◌≤◌, Bool, true, false, ◌&&◌, ◌||◌, List, [], ◌∷◌, ◌++◌, length, map, Option, Some, None, Ok, Err, refl, sym, ap, subst, ◌∙◌, arith, true≢false}
+use Rattle.std.proofs.Common.{◌≡◌, ◌⊎◌, inl, inr, ℕ, zero, suc, ◌<◌, ◌≤◌, Bool, true, false, ◌&&◌, ◌||◌, List, [], ◌∷◌, length, map, Some, None, Ok, Err, refl, sym, ap, subst, ◌∙◌, arith, true≢false}
 use Rattle.std.specs.Prelude.{IsTrue}
 use Rattle.p2c_text.specs.declared.dialect.Dialect.{Dialect}
 use Rattle.p2c_text.specs.declared.place.Span.{Span}
@@ -14,23 +14,22 @@ use Rattle.pascal_tree.specs.declared.statements.Stmt.{Stmt}
 use Rattle.token_parsing.specs.Parser.{Parser, Outcome, and_then, begins, again, repeat, rest}
 use Rattle.token_parsing.proofs.Tracked.{Shorter, short, refuses_short, stops_short, Takes, takes_token, Shrinks, short_then, one_shrinks, then_shrinks, pure_shrinks, again_shrinks, repeat_shrinks}
 use Rattle.expr_parser.specs.Tokens.{Token, Placed, Symbol}
-use Rattle.expr_parser.specs.Layout.{Layout, Done, ◌&◌, symbol, spanned, with_commas, after_commas}
+use Rattle.expr_parser.specs.Layout.{Done, ◌&◌, symbol, spanned, with_commas, after_commas}
 use Rattle.expr_parser.specs.Grammar.{some_all}
-use Rattle.expr_parser.specs.Classes.{signs, identifiers, numbers, texts, symbols, same_symbol}
+use Rattle.expr_parser.specs.Classes.{identifiers, numbers, texts, symbols, same_symbol}
 use Rattle.expr_parser.proofs.Layouts.{spell, spell_join}
-use Rattle.expr_parser.proofs.Followed.{Until, Along, last, longer, Followed, meets, past, refuses_past, too_deep, Begun, Looks, limit, short_followed, on_first, follow_then, follow_pure, follow_token, follow_first, follow_second, begun_token, looks_at}
-use Rattle.expr_parser.proofs.FollowedParts.{and_out, Part, part_as, part_first, part_second, part_left, part_right, part_inside, along_as, ExprFollowed}
-use Rattle.expr_parser.proofs.Lookahead.{looks_sign, looks_name, looks_number, looks_text, looks_symbol, on_sign, on_name, on_number, on_text, on_symbol, on_symbol_here, accepts_symbol}
+use Rattle.expr_parser.proofs.Followed.{Until, Along, last, longer, Followed, meets, past, refuses_past, too_deep, Begun, Looks, limit, short_followed, on_first, follow_then, follow_pure, follow_token, begun_token, looks_at}
+use Rattle.expr_parser.proofs.FollowedParts.{and_out, Part, part_as, part_first, part_second, part_left, part_right, part_inside, along_as}
+use Rattle.expr_parser.proofs.Lookahead.{looks_sign, looks_name, looks_number, looks_text, looks_symbol, on_sign, on_name, on_number, on_text, on_symbol, accepts_symbol}
 use Rattle.expr_parser.specs.ConstantNodes.{write_case_label, write_constant, formed_case_label}
 use Rattle.expr_parser.specs.Semicolons.{after_semicolons, with_semicolons}
 use Rattle.stmt_parser.specs.Writing.{write_arm, write_stmt}
-use Rattle.stmt_parser.specs.Grammar.{alone, some_up_to, formed_arm, formed_stmt}
+use Rattle.stmt_parser.specs.Grammar.{some_up_to, formed_arm, formed_stmt}
 use Rattle.expr_parser.specs.Constants.{begins_constant}
-use Rattle.stmt_parser.specs.Cases.{arm_of, arm, next_arm, begins_next_arm, more_arms, arms}
+use Rattle.stmt_parser.specs.Cases.{arm, next_arm, begins_next_arm, more_arms, arms}
 use Rattle.stmt_parser.proofs.WrittenStatements.{write_arm_of}
 use Rattle.stmt_parser.proofs.FormedStatements.{formed_arm_of}
 use Rattle.stmt_parser.proofs.StatementViews.{arm_is}
-use Rattle.expr_parser.proofs.ConstantShrinks.{case_labels_shrinks}
 use Rattle.stmt_parser.proofs.Shrinks.{arm_shrinks, next_arm_shrinks}
 use Rattle.stmt_parser.proofs.Ends.{StmtEnds, semicolon_ends}
 use Rattle.expr_parser.proofs.FollowedConstants.{case_labels_followed}

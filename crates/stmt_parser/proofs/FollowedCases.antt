@@ -1,5 +1,5 @@
 -- The statement `case` of a text is followed.
-use Rattle.std.proofs.Common.{◌≡◌, ℕ, Bool, true, false, ◌&&◌, not, List, [], ◌∷◌, length, map, Option, Some, None, Ok, refl, sym, ap, subst, ◌∙◌, true≢false}
+use Rattle.std.proofs.Common.{◌≡◌, ℕ, Bool, true, false, ◌&&◌, not, List, ◌∷◌, length, map, Option, Some, None, Ok, refl, sym, ap, subst, ◌∙◌, true≢false}
 use Rattle.std.specs.Prelude.{IsTrue}
 use Rattle.p2c_text.specs.declared.dialect.Dialect.{Dialect}
 use Rattle.p2c_text.specs.declared.dialect.Dialect.TheVariants as dialect
@@ -16,26 +16,24 @@ use Rattle.pascal_tree.specs.declared.statements.Stmt.{Stmt}
 use Rattle.token_parsing.specs.Parser.{Parser, and_then, begins}
 use Rattle.token_parsing.proofs.Tracked.{Shorter, Shrinks, short_then, one_shrinks, then_shrinks, pure_shrinks}
 use Rattle.expr_parser.specs.Tokens.{Token, Placed, Word, Symbol}
-use Rattle.expr_parser.specs.Layout.{Layout, Done, ◌&◌, word, symbol, spanned}
+use Rattle.expr_parser.specs.Layout.{◌&◌, word, spanned}
 use Rattle.expr_parser.specs.Writing.{write_expr}
-use Rattle.expr_parser.specs.Grammar.{formed_expr}
 use Rattle.expr_parser.specs.Classes.{words, symbols, expect, expect_word, same_word, same_symbol}
 use Rattle.expr_parser.specs.Places.{made}
 use Rattle.expr_parser.proofs.Layouts.{spell, spell_join}
-use Rattle.expr_parser.proofs.Followed.{Until, Along, Followed, Begun, Looks, on_first, follow_then, follow_pure, follow_token, follow_first, follow_second, begun_token, looks_at}
+use Rattle.expr_parser.proofs.Followed.{Until, Along, Followed, Begun, Looks, follow_then, follow_pure, follow_token, follow_first, follow_second, begun_token, looks_at}
 use Rattle.expr_parser.proofs.FollowedParts.{and_out, Part, part_as, part_first, part_second, part_right, part_left, part_inside, along_as, ExprFollowed}
-use Rattle.expr_parser.proofs.Lookahead.{looks_name, looks_word, looks_symbol, on_symbol, on_word, on_word_here, accepts_word, accepts_symbol}
+use Rattle.expr_parser.proofs.Lookahead.{looks_name, looks_word, looks_symbol, on_word, on_word_here, accepts_word, accepts_symbol}
 use Rattle.expr_parser.specs.Dialects.{has_rest}
 use Rattle.expr_parser.specs.Semicolons.{optional_semicolon as write_semicolon, with_semicolons}
-use Rattle.stmt_parser.specs.Writing.{rest_word, write_plain, write_arm, write_rest, write_stmt}
-use Rattle.stmt_parser.specs.Grammar.{Formed, alone, some_alone, some_up_to, cases, formed_plain, formed_arm, formed_rest, formed_stmt}
-use Rattle.stmt_parser.specs.Statements.{stmts}
-use Rattle.stmt_parser.specs.Cases.{rest_of, optional_semicolon, rest_part, begins_rest, optional_rest, case_of}
+use Rattle.stmt_parser.specs.Writing.{rest_word, write_arm, write_rest, write_stmt}
+use Rattle.stmt_parser.specs.Grammar.{Formed, alone, some_alone, some_up_to, cases, formed_arm, formed_rest, formed_stmt}
+use Rattle.stmt_parser.specs.Cases.{optional_semicolon, rest_part, begins_rest, optional_rest, case_of}
 use Rattle.stmt_parser.specs.Levels.{structured, plain_by}
 use Rattle.stmt_parser.proofs.WrittenStatements.{write_rest_part, write_rest_of, write_case_of}
 use Rattle.stmt_parser.proofs.FormedStatements.{formed_rest_part, formed_rest_of, formed_case_of}
 use Rattle.stmt_parser.proofs.StatementViews.{rest_is}
-use Rattle.stmt_parser.proofs.Shrinks.{stmts_shrinks, arms_shrinks, semicolon_shrinks, rest_shrinks, optional_rest_shrinks}
+use Rattle.stmt_parser.proofs.Shrinks.{stmts_shrinks, arms_shrinks, semicolon_shrinks, optional_rest_shrinks}
 use Rattle.stmt_parser.proofs.Ends.{StmtEnds, semicolon_ends, end_ends, otherwise_ends, else_ends, of_ends}
 use Rattle.stmt_parser.proofs.FollowedStatements.{StmtFollowed, PlainRead, stmts_followed}
 use Rattle.stmt_parser.proofs.FollowedSimple.{between_followed}

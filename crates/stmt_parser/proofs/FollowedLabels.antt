@@ -1,5 +1,5 @@
 -- A label of a text is followed, and where the text has none, none is read.
-use Rattle.std.proofs.Common.{◌≡◌, ◌⊎◌, inl, inr, ℕ, suc, ◌≤◌, Bool, true, false, ◌&&◌, ◌||◌, List, [], ◌∷◌, length, Option, Some, None, Ok, refl, sym, ap, subst, ◌∙◌, arith}
+use Rattle.std.proofs.Common.{◌≡◌, ◌⊎◌, inl, inr, ℕ, ◌≤◌, Bool, true, false, ◌&&◌, ◌||◌, List, [], ◌∷◌, length, Option, Some, None, Ok, refl, ap, ◌∙◌, arith}
 use Rattle.std.specs.Prelude.{IsTrue}
 use Rattle.p2c_text.specs.declared.dialect.Dialect.{Dialect}
 use Rattle.p2c_text.specs.declared.place.Span.{Span}
@@ -9,16 +9,14 @@ use Rattle.pascal_tree.specs.declared.names.Label.{Label}
 use Rattle.pascal_tree.specs.declared.names.Label.TheVariants as a_label
 use Rattle.token_parsing.specs.Parser.{Parser, Outcome, and_then, take_of, one_of, is_some, begins, rest}
 use Rattle.token_parsing.proofs.Tracked.{Shorter, Shrinks, short_then, one_shrinks, then_shrinks, pure_shrinks}
-use Rattle.expr_parser.specs.Tokens.{Token, Placed, Name, Number, Symbol}
-use Rattle.expr_parser.specs.Classes.{identifiers, numbers, symbols, expect, same_symbol}
+use Rattle.expr_parser.specs.Tokens.{Token, Placed, Symbol}
+use Rattle.expr_parser.specs.Classes.{identifiers, numbers, symbols, expect}
 use Rattle.expr_parser.proofs.Layouts.{spell}
-use Rattle.expr_parser.proofs.Followed.{Until, ended, Along, done, last, longer, Followed, limit, short_followed, on_first, follow_then, follow_pure, follow_token, begun_token, looks_at}
-use Rattle.expr_parser.proofs.FollowedParts.{along_as}
+use Rattle.expr_parser.proofs.Followed.{Until, Along, done, last, longer, Followed, limit, short_followed, follow_then, follow_pure, follow_token, begun_token, looks_at}
 use Rattle.expr_parser.proofs.Lookahead.{looks_name, looks_number, looks_symbol, on_name, on_number, on_symbol, on_symbol_here, accepts_symbol}
 use Rattle.expr_parser.specs.Dialects.{has_named_labels}
 use Rattle.expr_parser.specs.ConstantNodes.{write_label, formed_label}
 use Rattle.expr_parser.specs.Constants.{named_label, number_label, begins_named_label, label, begins_label, optional_label}
-use Rattle.expr_parser.proofs.ConstantShrinks.{label_shrinks}
 use Rattle.expr_parser.proofs.FollowedConstants.{label_followed}
 use Rattle.stmt_parser.proofs.FollowedArms.{two_known, shorter_still}
 

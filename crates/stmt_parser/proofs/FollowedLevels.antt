@@ -1,46 +1,40 @@
 -- A statement of a text is followed, within the levels that it needs.
-use Rattle.std.proofs.Common.{◌≡◌, ℕ, zero, suc, ◌≤◌, max, Bool, true, false, ◌&&◌, List, [], ◌∷◌, length, map, Option, Some, None, refl, sym, ap, subst, ◌∙◌, arith}
+use Rattle.std.proofs.Common.{◌≡◌, ℕ, zero, suc, ◌≤◌, Bool, true, false, ◌&&◌, List, [], ◌∷◌, length, map, Option, Some, None, refl, sym, ap, subst, ◌∙◌, arith}
 use Rattle.std.specs.Prelude.{IsTrue}
 use Rattle.p2c_text.specs.declared.dialect.Dialect.{Dialect}
 use Rattle.p2c_text.specs.declared.place.Span.{Span}
-use Rattle.dialect_lexer.specs.declared.token.Symbol.{Symbol as SpecialSymbol}
 use Rattle.dialect_lexer.specs.declared.token.Symbol.TheVariants as mark
-use Rattle.pascal_tree.specs.declared.names.Identifier.{Identifier}
 use Rattle.pascal_tree.specs.declared.names.Label.{Label}
-use Rattle.pascal_tree.specs.declared.constants.CaseLabel.{CaseLabel}
 use Rattle.pascal_tree.specs.declared.expressions.Args.{Args}
 use Rattle.pascal_tree.specs.declared.expressions.Expr.{Expr}
-use Rattle.pascal_tree.specs.declared.expressions.Place.{Place, out-Place}
+use Rattle.pascal_tree.specs.declared.expressions.Place.{out-Place}
 use Rattle.pascal_tree.specs.declared.expressions.Selector.{Selector}
-use Rattle.pascal_tree.specs.declared.statements.Direction.{Direction}
 use Rattle.pascal_tree.specs.declared.statements.Plain.{Plain}
-use Rattle.pascal_tree.specs.declared.statements.Arm.{Arm}
-use Rattle.pascal_tree.specs.declared.statements.Rest.{Rest}
 use Rattle.pascal_tree.specs.declared.statements.Stmt.{Stmt, out-Stmt}
 use Rattle.token_parsing.specs.Parser.{Parser, Outcome, and_then, begins}
 use Rattle.token_parsing.proofs.Tracked.{Shorter, Shrinks, short_then, then_shrinks, pure_shrinks}
 use Rattle.expr_parser.specs.Tokens.{Token, Placed, Name, Number, Text, Word, Symbol}
-use Rattle.expr_parser.specs.Layout.{Layout, Done, ◌&◌, symbol, spanned, counted, in_row, height_of}
-use Rattle.expr_parser.specs.Writing.{write_args, write_expr, write_place, write_selector}
+use Rattle.expr_parser.specs.Layout.{Layout, ◌&◌, symbol, spanned, counted, in_row, height_of}
+use Rattle.expr_parser.specs.Writing.{write_expr, write_place, write_selector}
 use Rattle.expr_parser.specs.Classes.{identifiers, same_word, same_symbol}
 use Rattle.expr_parser.specs.Places.{made}
 use Rattle.expr_parser.specs.Expressions.{expr}
 use Rattle.expr_parser.proofs.Layouts.{spell, spell_join}
 use Rattle.expr_parser.proofs.Spelled.{place_spelled, args_spelled}
 use Rattle.expr_parser.proofs.Shrinks.{expr_shrinks}
-use Rattle.expr_parser.proofs.Followed.{Until, Along, Followed, too_deep, on_first, follow_then, follow_pure}
-use Rattle.expr_parser.proofs.FollowedParts.{and_out, Part, part_as, part_first, part_second, part_right, part_inside, part_counted, along_as, ExprFollowed}
+use Rattle.expr_parser.proofs.Followed.{Until, Along, Followed, too_deep, follow_then, follow_pure}
+use Rattle.expr_parser.proofs.FollowedParts.{Part, part_as, part_first, part_second, part_inside, part_counted, along_as, ExprFollowed}
 use Rattle.expr_parser.proofs.FollowedPlaces.{selector_starts}
 use Rattle.expr_parser.proofs.FollowedFactors.{expr_followed}
-use Rattle.expr_parser.proofs.Lookahead.{on_name, on_number, on_symbol, on_selector}
-use Rattle.expr_parser.specs.ConstantNodes.{write_label, formed_label}
+use Rattle.expr_parser.proofs.Lookahead.{on_symbol, on_selector}
+use Rattle.expr_parser.specs.ConstantNodes.{write_label}
 use Rattle.stmt_parser.specs.Writing.{optional_args, optional_label as write_label_part, write_plain, write_stmt}
 use Rattle.stmt_parser.specs.Grammar.{formed_optional_label, formed_plain, formed_stmt}
 use Rattle.stmt_parser.specs.Statements.{stmt_of}
 use Rattle.stmt_parser.specs.Levels.{plain_by, stmt_by, stmt}
 use Rattle.stmt_parser.proofs.WrittenStatements.{write_stmt_of, write_nothing_of, write_assign_of, write_call_of, write_goto_of, write_compound_of, write_if_of, write_case_of, write_while_of, write_repeat_of, write_for_of, write_with_of, write_try_of}
 use Rattle.stmt_parser.proofs.FormedStatements.{formed_stmt_of}
-use Rattle.stmt_parser.proofs.StatementViews.{stmt_is, PlainCases, plain_cases}
+use Rattle.stmt_parser.proofs.StatementViews.{stmt_is, plain_cases}
 use Rattle.stmt_parser.proofs.Shrinks.{plain_shrinks, stmt_shrinks}
 use Rattle.stmt_parser.proofs.Ends.{StmtEnds}
 use Rattle.stmt_parser.proofs.Begun.{named_begun}

@@ -1,5 +1,5 @@
 -- Lists with semicolons of a text are followed.
-use Rattle.std.proofs.Common.{◌≡◌, ℕ, Bool, true, false, ◌&&◌, List, [], ◌∷◌, ◌++◌, map, Ok, refl, sym, ap, subst, ◌∙◌}
+use Rattle.std.proofs.Common.{◌≡◌, ℕ, Bool, false, ◌&&◌, List, [], ◌∷◌, ◌++◌, map, Ok, refl, ap}
 use Rattle.dialect_lexer.specs.declared.token.Symbol.TheVariants as mark
 use Rattle.token_parsing.specs.Parser.{Parser, and_then, begins, repeat}
 use Rattle.token_parsing.proofs.Tracked.{Shrinks, pure_shrinks, one_shrinks, then_shrinks, repeat_shrinks, takes_token}

@@ -1,5 +1,5 @@
 -- Statements of a text that have no statements in them are followed.
-use Rattle.std.proofs.Common.{◌≡◌, ℕ, zero, suc, Bool, true, false, ◌&&◌, ◌||◌, List, [], ◌∷◌, length, map, Option, Some, None, Ok, Err, refl, sym, ap, subst, ◌∙◌, arith}
+use Rattle.std.proofs.Common.{◌≡◌, ℕ, suc, Bool, true, false, ◌||◌, List, [], ◌∷◌, length, map, Option, Some, None, Ok, Err, refl, sym, ap, subst, ◌∙◌}
 use Rattle.p2c_text.specs.declared.dialect.Dialect.{Dialect}
 use Rattle.p2c_text.specs.declared.place.Span.{Span}
 use Rattle.dialect_lexer.specs.declared.token.Word.{Word as WordSymbol}
@@ -15,26 +15,25 @@ use Rattle.pascal_tree.specs.declared.statements.Direction.TheVariants as a_dire
 use Rattle.pascal_tree.specs.declared.statements.Plain.{Plain}
 use Rattle.pascal_tree.specs.declared.statements.Plain.TheVariants as plain_
 use Rattle.token_parsing.specs.Parser.{Parser, Outcome, and_then, begins, again, repeat, either}
-use Rattle.token_parsing.proofs.Tracked.{Shorter, Shrinks, short, short_then, one_shrinks, then_shrinks, pure_shrinks, again_shrinks}
-use Rattle.expr_parser.specs.Tokens.{Token, Placed, Name, Word, Symbol}
-use Rattle.expr_parser.specs.Layout.{Layout, Done, ◌&◌, word, symbol, in_row, with_commas}
-use Rattle.expr_parser.specs.Writing.{identifier, write_args, write_expr, write_place, write_selector}
+use Rattle.token_parsing.proofs.Tracked.{Shorter, Shrinks, short_then, one_shrinks, then_shrinks, pure_shrinks, again_shrinks}
+use Rattle.expr_parser.specs.Tokens.{Token, Placed, Word, Symbol}
+use Rattle.expr_parser.specs.Layout.{in_row, with_commas}
+use Rattle.expr_parser.specs.Writing.{write_args, write_expr, write_place, write_selector}
 use Rattle.expr_parser.specs.Grammar.{some_all, formed_args, formed_expr, formed_place}
-use Rattle.expr_parser.specs.Classes.{identifiers, words, symbols, expect, operator_of, same_word, same_symbol}
+use Rattle.expr_parser.specs.Classes.{identifiers, words, symbols, expect, operator_of, same_symbol}
 use Rattle.expr_parser.specs.Places.{made, place_of, index, field, follow, selected, begins_selector, next_selector, selectors, place_from, place}
 use Rattle.expr_parser.proofs.Layouts.{spell, spell_join}
 use Rattle.expr_parser.proofs.Spelled.{place_spelled, args_spelled}
-use Rattle.expr_parser.proofs.Shrinks.{exprs_shrinks, next_selector_shrinks, selectors_shrinks, place_from_shrinks}
-use Rattle.expr_parser.proofs.Followed.{Until, Along, done, last, longer, Followed, Begun, Looks, Accepts, on_first, follow_then, follow_pure, follow_token, follow_first, follow_second, follow_not, begun_token, looks_at}
-use Rattle.expr_parser.proofs.FollowedParts.{Part, part_first, part_second, part_right, part_left, along_as, ExprFollowed}
+use Rattle.expr_parser.proofs.Shrinks.{exprs_shrinks, next_selector_shrinks, place_from_shrinks}
+use Rattle.expr_parser.proofs.Followed.{Until, Along, done, last, longer, Followed, Begun, Looks, Accepts, on_first, follow_then, follow_pure, follow_token, follow_first, follow_not, begun_token, looks_at}
+use Rattle.expr_parser.proofs.FollowedParts.{Part, along_as, ExprFollowed}
 use Rattle.expr_parser.proofs.FollowedLists.{commas_followed}
 use Rattle.expr_parser.proofs.FollowedPlaces.{selector_starts, place_from_followed, no_arguments, args_followed}
-use Rattle.expr_parser.proofs.Lookahead.{looks_name, looks_word, looks_symbol, looks_selector, on_selector, on_symbol, accepts_name, accepts_word, accepts_symbol, ExprEnds, FactorEnds}
+use Rattle.expr_parser.proofs.Lookahead.{looks_symbol, looks_selector, on_selector, on_symbol, accepts_name, accepts_word, accepts_symbol, ExprEnds, FactorEnds}
 use Rattle.stmt_parser.specs.Classes.{direction_of, directions}
 use Rattle.stmt_parser.specs.Writing.{direction_word, optional_args}
-use Rattle.stmt_parser.specs.Grammar.{formed_optional_args}
 use Rattle.stmt_parser.specs.Statements.{between, assignment, call_with, call_alone, begins_target, after_name, limits, next_place, more_places, places}
-use Rattle.stmt_parser.proofs.Shrinks.{assignment_shrinks, call_with_shrinks, place_shrinks}
+use Rattle.stmt_parser.proofs.Shrinks.{place_shrinks}
 use Rattle.stmt_parser.proofs.Begun.{call_begun}
 use Rattle.stmt_parser.proofs.Ends.{to_ends, downto_ends, do_ends}
 

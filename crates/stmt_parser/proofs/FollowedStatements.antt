@@ -1,6 +1,5 @@
 -- Statements of a text are followed.
-use Rattle.std.proofs.Common.{◌≡◌, ℕ, zero, suc, ◌≤◌, max, Bool, true, false, ◌&&◌, not, List, [], ◌∷◌, length, map, Option, Some, None, Ok, refl, sym, ap, subst, ◌∙◌, arith}
-use Rattle.std.specs.Prelude.{IsTrue}
+use Rattle.std.proofs.Common.{◌≡◌, ℕ, Bool, true, false, ◌&&◌, List, [], ◌∷◌, map, Option, Some, None, Ok, refl, ap, ◌∙◌}
 use Rattle.std.proofs.lemmas.Simd.{map-map}
 use Rattle.p2c_text.specs.declared.dialect.Dialect.{Dialect}
 use Rattle.p2c_text.specs.declared.place.Span.{Span}
@@ -15,20 +14,19 @@ use Rattle.pascal_tree.specs.declared.statements.Direction.{Direction}
 use Rattle.pascal_tree.specs.declared.statements.Plain.{Plain}
 use Rattle.pascal_tree.specs.declared.statements.Plain.TheVariants as plain_
 use Rattle.pascal_tree.specs.declared.statements.Stmt.{Stmt}
-use Rattle.token_parsing.specs.Parser.{Parser, and_then, begins, either, repeat}
+use Rattle.token_parsing.specs.Parser.{Parser, and_then, begins, either}
 use Rattle.token_parsing.proofs.Tracked.{Shrinks, one_shrinks, then_shrinks, pure_shrinks}
 use Rattle.expr_parser.specs.Tokens.{Token, Placed, Name, Word, Symbol}
-use Rattle.expr_parser.specs.Layout.{Layout, Done, ◌&◌, word, symbol, spanned, in_row, with_commas, height_of}
-use Rattle.expr_parser.specs.Writing.{identifier, write_args, write_expr, write_place, write_selector}
-use Rattle.expr_parser.specs.Grammar.{some_all, formed_args, formed_expr, formed_place}
-use Rattle.expr_parser.specs.Classes.{identifiers, words, symbols, expect_word, same_word, same_symbol}
+use Rattle.expr_parser.specs.Layout.{Done, ◌&◌, word, symbol, with_commas}
+use Rattle.expr_parser.specs.Writing.{identifier, write_expr, write_place}
+use Rattle.expr_parser.specs.Grammar.{some_all, formed_expr}
+use Rattle.expr_parser.specs.Classes.{identifiers, words, expect_word, same_word}
 use Rattle.expr_parser.specs.Places.{made}
 use Rattle.expr_parser.proofs.Layouts.{spell, spell_join}
 use Rattle.expr_parser.proofs.Spelled.{place_spelled}
 use Rattle.expr_parser.proofs.Followed.{Until, Along, Followed, on_first, follow_then, follow_pure, follow_token, follow_first, follow_second, follow_not, looks_at}
-use Rattle.expr_parser.proofs.FollowedParts.{and_out, Part, part_as, part_first, part_second, part_left, part_right, part_inside, along_as, ExprFollowed}
-use Rattle.expr_parser.proofs.Lookahead.{looks_name, looks_word, looks_symbol, on_symbol, on_word, accepts_name, accepts_word, accepts_symbol}
-use Rattle.expr_parser.specs.ConstantNodes.{write_label, formed_label}
+use Rattle.expr_parser.proofs.FollowedParts.{Part, part_as, part_first, part_second, part_left, part_right, part_inside, along_as, ExprFollowed}
+use Rattle.expr_parser.proofs.Lookahead.{looks_name, looks_word, on_symbol, accepts_name, accepts_word}
 use Rattle.expr_parser.specs.Semicolons.{with_semicolons}
 use Rattle.stmt_parser.specs.Writing.{optional_args, direction_word, write_plain, write_stmt}
 use Rattle.stmt_parser.specs.Grammar.{alone, some_alone, branches, formed_optional_args, formed_plain, formed_stmt}
@@ -36,7 +34,7 @@ use Rattle.stmt_parser.specs.Statements.{next_stmt, more_stmts, stmts, nothing, 
 use Rattle.stmt_parser.specs.Cases.{case_of}
 use Rattle.stmt_parser.specs.Levels.{structured, plain_by}
 use Rattle.stmt_parser.proofs.WrittenStatements.{write_else, write_nothing_of, write_assign_of, write_call_of, write_goto_of, write_compound_of, write_if_of, write_while_of, write_repeat_of, write_for_of, write_with_of, write_try_of}
-use Rattle.stmt_parser.proofs.FormedStatements.{formed_else, formed_nothing_of, formed_assign_of, formed_call_of, formed_goto_of, formed_compound_of, formed_if_of, formed_while_of, formed_repeat_of, formed_for_of, formed_with_of, formed_try_of}
+use Rattle.stmt_parser.proofs.FormedStatements.{formed_else, formed_assign_of, formed_call_of, formed_goto_of, formed_compound_of, formed_if_of, formed_while_of, formed_repeat_of, formed_for_of, formed_with_of, formed_try_of}
 use Rattle.expr_parser.proofs.ConstantShrinks.{label_shrinks}
 use Rattle.stmt_parser.proofs.Shrinks.{after_name_shrinks, limits_shrinks, places_shrinks, stmts_shrinks, optional_else_shrinks}
 use Rattle.stmt_parser.proofs.Ends.{StmtEnds, semicolon_ends, end_ends, until_ends, recover_ends, else_ends, then_ends, do_ends}

@@ -10,11 +10,11 @@ use Rattle.pascal_tree.specs.declared.expressions.Expr.{Expr}
 use Rattle.pascal_tree.specs.declared.expressions.Place.{Place}
 use Rattle.pascal_tree.specs.declared.statements.Direction.{Direction}
 use Rattle.pascal_tree.specs.declared.statements.Plain.TheOpen as part
-use Rattle.pascal_tree.specs.declared.statements.Plain.{Plain, roll-Plain, fold-roll-Plain}
+use Rattle.pascal_tree.specs.declared.statements.Plain.{Plain, fold-roll-Plain}
 use Rattle.pascal_tree.specs.declared.statements.Plain.TheVariants as plain_
-use Rattle.pascal_tree.specs.declared.statements.Arm.{Arm, roll-Arm, fold-roll-Arm}
-use Rattle.pascal_tree.specs.declared.statements.Rest.{Rest, roll-Rest, fold-roll-Rest}
-use Rattle.pascal_tree.specs.declared.statements.Stmt.{Stmt, roll-Stmt, fold-roll-Stmt}
+use Rattle.pascal_tree.specs.declared.statements.Arm.{Arm, fold-roll-Arm}
+use Rattle.pascal_tree.specs.declared.statements.Rest.{Rest, fold-roll-Rest}
+use Rattle.pascal_tree.specs.declared.statements.Stmt.{Stmt, fold-roll-Stmt}
 use Rattle.expr_parser.specs.Grammar.{some_all, formed_expr, formed_place}
 use Rattle.stmt_parser.specs.Statements.{stmt_of}
 use Rattle.stmt_parser.specs.Cases.{arm_of, rest_of}

@@ -14,3 +14,7 @@ pub mod FollowedLevels
 pub mod SoundRows
 pub mod SoundStatements
 pub mod SoundSimple
+pub mod SoundLoops
+pub mod SoundCases
+pub mod SoundLevels
+pub mod Clauses

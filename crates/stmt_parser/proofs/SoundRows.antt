@@ -1,19 +1,19 @@
 -- Rows with semicolons that are read, where an `else` may follow the last item.
-use Rattle.std.proofs.Common.{◌≡◌, ℕ, ◌+◌, ◌≤◌, max, Bool, true, false, ◌&&◌, List, [], ◌∷◌, ◌++◌, map, Ok, refl, sym, ap, subst, ◌∙◌, arith, true≢false}
+use Rattle.std.proofs.Common.{◌≡◌, ℕ, ◌+◌, ◌≤◌, Bool, true, false, List, [], ◌∷◌, ◌++◌, map, Ok, refl, sym, ap, subst, ◌∙◌, arith}
 use Rattle.std.specs.Prelude.{IsTrue}
 use Rattle.p2c_text.specs.declared.dialect.Dialect.{Dialect}
 use Rattle.p2c_text.specs.declared.place.Span.{Span}
 use Rattle.dialect_lexer.specs.declared.token.Word.TheVariants as word_
 use Rattle.dialect_lexer.specs.declared.token.Symbol.TheVariants as mark
-use Rattle.token_parsing.specs.Parser.{Outcome, Parser, and_then, begins, repeat}
-use Rattle.token_parsing.proofs.Fair.{Fair, reads, fair_then, fair_repeat, fair_so}
-use Rattle.expr_parser.specs.Tokens.{Token, Placed, plain, Symbol}
-use Rattle.expr_parser.specs.Layout.{Layout, Done, Leaf, ◌&◌, symbol, height_of, IsWritten}
+use Rattle.token_parsing.specs.Parser.{Parser, and_then, begins, repeat}
+use Rattle.token_parsing.proofs.Fair.{reads, fair_then, fair_repeat}
+use Rattle.expr_parser.specs.Tokens.{Token, Placed, plain}
+use Rattle.expr_parser.specs.Layout.{Layout, Leaf, ◌&◌, symbol, height_of, IsWritten}
 use Rattle.expr_parser.specs.Grammar.{AreTokens, all}
-use Rattle.expr_parser.specs.Classes.{words, symbols, expect, same_word}
+use Rattle.expr_parser.specs.Classes.{words, symbols, expect}
 use Rattle.expr_parser.proofs.Layouts.{height_join, join_done, join_assoc, written_join}
 use Rattle.expr_parser.proofs.FollowedParts.{and_in, and_out}
-use Rattle.expr_parser.proofs.Openings.{Opening, within, behind, before, Filled, filled_as, Hole}
+use Rattle.expr_parser.proofs.Openings.{Opening, within, behind, filled_as, Hole}
 use Rattle.expr_parser.proofs.Spots.{Answer, Spot, spot_behind}
 use Rattle.expr_parser.proofs.SoundTokens.{answer_mark}
 use Rattle.expr_parser.proofs.SoundLists.{listed}
@@ -57,6 +57,15 @@ module _ (d : Dialect) {C : Type 0} (layout : C → Layout) (form : C → Bool) 
     pub formed_alone : IsTrue (alone (formed x))
     pub before_else : else_next r ≡ true → IsTrue (formed x true)
     pub fits : height_of (write x) ≤ k
+
+  -- an item that was read, by its parts
+  pub one_as : {s r : List Placed} {x : A} {l : Layout} {b : Formed} → write x ≡ l → ((follows : Bool) → formed x follows ≡ b follows) → IsWritten end l s r → IsTrue (alone b) → (else_next r ≡ true → IsTrue (b true)) → height_of l ≤ k → ReadsOne s x r
+  one_as {s} {r} e f w t u h = record {
+    written = subst (λ l. IsWritten end l s r) (sym e) w;
+    formed_alone = f false ∙ t;
+    before_else = λ next. f true ∙ u next;
+    fits = subst (λ l. height_of l ≤ k) (sym e) h;
+  }
 
   -- a parser of such items with k levels left
   abbrev pub GoodOne : Parser Placed A → Type 0

@@ -1,22 +1,20 @@
 -- Assignments, calls and `goto` that are read.
-use Rattle.std.proofs.Common.{◌≡◌, ℕ, ◌+◌, ◌≤◌, max, Bool, true, false, ◌&&◌, List, [], ◌∷◌, Option, Some, None, refl, sym, ap, subst, ◌∙◌, arith}
+use Rattle.std.proofs.Common.{◌≡◌, ℕ, ◌+◌, Bool, true, false, List, [], Some, None, refl, ap, ◌∙◌, arith}
 use Rattle.std.specs.Prelude.{IsTrue}
 use Rattle.p2c_text.specs.declared.dialect.Dialect.{Dialect}
 use Rattle.p2c_text.specs.declared.place.Span.{Span}
 use Rattle.dialect_lexer.specs.declared.token.Word.TheVariants as word_
 use Rattle.dialect_lexer.specs.declared.token.Symbol.TheVariants as mark
 use Rattle.pascal_tree.specs.declared.names.Identifier.{Identifier}
-use Rattle.pascal_tree.specs.declared.names.Label.{Label}
-use Rattle.pascal_tree.specs.declared.expressions.Args.{Args}
 use Rattle.pascal_tree.specs.declared.expressions.Expr.{Expr}
 use Rattle.pascal_tree.specs.declared.expressions.Place.{Place}
 use Rattle.pascal_tree.specs.declared.statements.Plain.{Plain}
 use Rattle.pascal_tree.specs.declared.statements.Plain.TheVariants as plain_
-use Rattle.token_parsing.specs.Parser.{Outcome, Parser, and_then, begins}
+use Rattle.token_parsing.specs.Parser.{Outcome, Parser, begins}
 use Rattle.token_parsing.proofs.Fair.{reads, fair_then, fair_either}
 use Rattle.expr_parser.specs.Tokens.{Placed, plain}
 use Rattle.expr_parser.specs.Spans.{span_between}
-use Rattle.expr_parser.specs.Layout.{Layout, Done, ◌&◌, word, symbol, spanned, tokens_of, height_of, IsWritten}
+use Rattle.expr_parser.specs.Layout.{Layout, Done, ◌&◌, word, symbol, spanned, tokens_of, IsWritten}
 use Rattle.expr_parser.specs.Writing.{identifier, write_args, write_expr, write_place}
 use Rattle.expr_parser.specs.Grammar.{AreTokens, formed_args, formed_expr, formed_place}
 use Rattle.expr_parser.specs.ConstantNodes.{write_label, formed_label}

@@ -1,5 +1,5 @@
 -- Statements that are read.
-use Rattle.std.proofs.Common.{◌≡◌, ℕ, zero, suc, ◌+◌, ◌≤◌, max, Bool, true, false, ◌&&◌, not, List, [], ◌∷◌, ◌++◌, length, map, Option, Some, None, Ok, refl, sym, ap, subst, ◌∙◌, arith, true≢false}
+use Rattle.std.proofs.Common.{◌≡◌, ℕ, ◌+◌, ◌≤◌, Bool, true, false, ◌&&◌, List, [], ◌∷◌, map, Option, Some, None, refl, sym, ap, subst, ◌∙◌, arith, true≢false}
 use Rattle.std.specs.Prelude.{IsTrue}
 use Rattle.p2c_text.specs.declared.dialect.Dialect.{Dialect}
 use Rattle.p2c_text.specs.declared.place.Span.{Span}
@@ -11,33 +11,33 @@ use Rattle.pascal_tree.specs.declared.statements.Plain.{Plain}
 use Rattle.pascal_tree.specs.declared.statements.Plain.TheVariants as plain_
 use Rattle.pascal_tree.specs.declared.statements.Stmt.{Stmt}
 use Rattle.token_parsing.specs.Parser.{Outcome, Parser, and_then, begins}
-use Rattle.token_parsing.proofs.Fair.{Fair, reads, fair_then, fair_either, fair_so}
-use Rattle.expr_parser.specs.Tokens.{Token, Placed, plain, Word}
+use Rattle.token_parsing.proofs.Fair.{reads, fair_then, fair_either}
+use Rattle.expr_parser.specs.Tokens.{Placed, plain, Word}
 use Rattle.expr_parser.specs.Spans.{span_between}
-use Rattle.expr_parser.specs.Layout.{Layout, Done, ◌&◌, word, symbol, spanned, counted, tokens_of, height_of, IsWritten}
+use Rattle.expr_parser.specs.Layout.{Layout, Done, ◌&◌, word, spanned, counted, tokens_of, height_of, IsWritten}
 use Rattle.expr_parser.specs.Writing.{write_expr}
 use Rattle.expr_parser.specs.Grammar.{IsToken, AreTokens, formed_expr}
 use Rattle.expr_parser.specs.Classes.{words, symbols, expect_word}
 use Rattle.expr_parser.proofs.Layouts.{height_join, written_join}
 use Rattle.expr_parser.proofs.ClassTokens.{word_is}
-use Rattle.expr_parser.proofs.FollowedParts.{and_in, and_out}
+use Rattle.expr_parser.proofs.FollowedParts.{and_in}
 use Rattle.expr_parser.specs.Text.{Begins}
 use Rattle.expr_parser.proofs.Openings.{Opening, within, in_spanned, behind, before, Filled, filled_as, Hole}
-use Rattle.expr_parser.proofs.Spots.{Answer, Spot, Reads, Good, spot_behind, spot_within, begins_at}
+use Rattle.expr_parser.proofs.Spots.{Answer, Spot, Good, spot_behind, spot_within, begins_at}
 use Rattle.expr_parser.proofs.SoundTokens.{written_node, written_token, answer_token, answer_word}
 use Rattle.expr_parser.proofs.SoundLists.{listed}
 use Rattle.expr_parser.specs.Semicolons.{with_semicolons}
 use Rattle.stmt_parser.specs.Writing.{write_plain, write_stmt}
 use Rattle.stmt_parser.specs.Grammar.{Formed, alone, some_alone, branches, formed_plain, formed_stmt}
-use Rattle.stmt_parser.specs.Statements.{between, next_stmt, more_stmts, stmts, nothing, compound, optional_else, conditional, while_loop, repeat_loop, stmt_of}
-use Rattle.stmt_parser.proofs.WrittenStatements.{write_else, write_stmt_of, write_nothing_of, write_compound_of, write_if_of, write_while_of, write_repeat_of}
-use Rattle.stmt_parser.proofs.FormedStatements.{formed_else, formed_stmt_of, formed_nothing_of, formed_compound_of, formed_if_of, formed_while_of, formed_repeat_of}
-use Rattle.expr_parser.proofs.KnownTokens.{do_known, then_known, end_known, until_known}
-use Rattle.stmt_parser.proofs.SoundRows.{else_next, no_else, ReadsOne, GoodOne, ReadsRows, rows_sound}
+use Rattle.stmt_parser.specs.Statements.{between, next_stmt, more_stmts, stmts, nothing, compound, optional_else, conditional, while_loop, stmt_of}
+use Rattle.stmt_parser.proofs.WrittenStatements.{write_else, write_stmt_of, write_nothing_of, write_compound_of, write_if_of, write_while_of}
+use Rattle.stmt_parser.proofs.FormedStatements.{formed_else, formed_stmt_of, formed_nothing_of, formed_compound_of, formed_if_of, formed_while_of}
+use Rattle.expr_parser.proofs.KnownTokens.{do_known, then_known, end_known}
+use Rattle.stmt_parser.proofs.SoundRows.{else_next, ReadsOne, one_as, GoodOne, ReadsRows, rows_sound}
 
 -- ---- the empty statement, which may stand where one is wanted
 
-abbrev no_span : Span
+abbrev pub no_span : Span
 no_span = record { file = 0; start = 0; end = 0; line = 0 }
 
 abbrev pub empty : Stmt
@@ -100,12 +100,7 @@ module _ (d : Dialect) {C : Type 0} (layout : C → Layout) (form : C → Bool) 
   -- what was read, by its parts: it is formed alone, and before an `else` where one is next
   pub plain_as : {k : ℕ} {s r : List Placed} {p : Plain} {l : Layout} {b : Formed} → write_plain d p ≡ l → ((follows : Bool) → formed_plain d p follows ≡ b follows) → IsWritten end l s r → IsTrue (alone b) → (else_next r ≡ true → IsTrue (b true))
       → height_of l ≤ k → ReadsOne d layout form end outer levels tokens known (write_plain d) (formed_plain d) k s p r
-  plain_as {k} {s} {r} e f w t u h = record {
-    written = subst (λ l. IsWritten end l s r) (sym e) w;
-    formed_alone = f false ∙ t;
-    before_else = λ next. f true ∙ u next;
-    fits = subst (λ l. height_of l ≤ k) (sym e) h;
-  }
+  plain_as {k} e f w t u h = one_as d layout form end outer levels tokens known (write_plain d) (formed_plain d) k e f w t u h
 
   module _ (k : ℕ) where
     abbrev PlainReads : List Placed → Plain → List Placed → Type 0
@@ -161,7 +156,7 @@ module _ (d : Dialect) {C : Type 0} (layout : C → Layout) (form : C → Bool) 
         abbrev inside : Opening → Opening
         inside o = within o (in_spanned end)
 
-        compound_sound : (o : Opening) (s : List Placed) → SpotT o s → PlainHole o → o.depth + k ≡ levels → begins (words word_.KwBegin) s ≡ true → AnswerT (PlainReads s) (compound end inner s)
+        pub compound_sound : (o : Opening) (s : List Placed) → SpotT o s → PlainHole o → o.depth + k ≡ levels → begins (words word_.KwBegin) s ≡ true → AnswerT (PlainReads s) (compound end inner s)
         unfolding compound
         compound_sound o s spot hole deep test = answer_word d layout form end outer levels tokens word_.KwBegin s test (λ _ r1 w1.
             let opened = within (inside o) (behind (word word_.KwBegin)) in
@@ -198,7 +193,7 @@ module _ (d : Dialect) {C : Type 0} (layout : C → Layout) (form : C → Bool) 
             reads (Some x) r2 (record { written = written_join end (word word_.KwElse) (write_stmt d x) s r r2 w h.written; formed_alone = h.formed_alone; before_else = h.before_else; given = test; no_other = λ e. absurd (true≢false e); fits = fits }))))
             (λ none. reads None s (record { written = refl; formed_alone = refl; before_else = λ e. refl; given = none; no_other = λ e. none; fits = omega arith }))
 
-        conditional_sound : (o : Opening) (s : List Placed) → SpotT o s → PlainHole o → o.depth + k ≡ levels → begins (words word_.KwIf) s ≡ true → AnswerT (PlainReads s) (conditional end child inner s)
+        pub conditional_sound : (o : Opening) (s : List Placed) → SpotT o s → PlainHole o → o.depth + k ≡ levels → begins (words word_.KwIf) s ≡ true → AnswerT (PlainReads s) (conditional end child inner s)
         unfolding conditional
         conditional_sound o s spot hole deep test =
             let filled : (c : Expr) (a : Stmt) → IsTrue (formed_expr d c) → IsTrue (alone (formed_stmt d a)) → Filled layout form (o.plug (spanned end (word word_.KwIf & write_expr c & word word_.KwThen & write_stmt d a & Done))) =
@@ -213,8 +208,10 @@ module _ (d : Dialect) {C : Type 0} (layout : C → Layout) (form : C → Bool) 
             fair_then (inner_good (within o1 (before Done)) r1 (entered (before Done) spot1 refl tt) hole1 (omega (arith, deep))) (λ a r2 h.
             let t = write_stmt d a in
             let hole2 : else_next r2 ≡ true → Hole d layout form (λ x. word word_.KwElse & write_stmt d x) (λ x. alone (formed_stmt d x)) (within o1 (behind t)) =
-            λ next. record { at = λ x ok. filled_as layout form (ap o.plug (write_if_of d c a (Some x) end)) (hole.at (plain_.If c a (Some x) end)
-            (formed_if_of d c a (Some x) end false ∙ and_in (formed_expr d c) _ b.formed (and_in (formed_stmt d a true) _ (h.before_else next) ok))) } in
+            λ next. record {
+              at = λ x ok. filled_as layout form (ap o.plug (write_if_of d c a (Some x) end)) (hole.at (plain_.If c a (Some x) end)
+                  (formed_if_of d c a (Some x) end false ∙ and_in (formed_expr d c) _ b.formed (and_in (formed_stmt d a true) _ (h.before_else next) ok)));
+            } in
             fair_then (else_sound (within o1 (behind t)) r2 (moved t spot1 h.written) hole2 (omega (arith, deep))) (λ x r3 g.
             let z = write_else d x in let span = span_between end s r3 in let f1 = b.fits in let f2 = h.fits in let f3 = g.fits in
             reads (plain_.If c a x span) r3 (plain_as (write_if_of d c a x span) (λ f. formed_if_of d c a x span f)
@@ -224,7 +221,7 @@ module _ (d : Dialect) {C : Type 0} (layout : C → Layout) (form : C → Bool) 
             (λ next. and_in (formed_expr d c) _ b.formed (branches_before d a x r2 r3 h.before_else g.given g.before_else g.no_other next))
             (omega (arith, height_join e (word word_.KwThen & t & z), height_join t z, f1, f2, f3))))))
 
-        while_sound : (o : Opening) (s : List Placed) → SpotT o s → PlainHole o → o.depth + k ≡ levels → begins (words word_.KwWhile) s ≡ true → AnswerT (PlainReads s) (while_loop end child inner s)
+        pub while_sound : (o : Opening) (s : List Placed) → SpotT o s → PlainHole o → o.depth + k ≡ levels → begins (words word_.KwWhile) s ≡ true → AnswerT (PlainReads s) (while_loop end child inner s)
         unfolding while_loop
         while_sound o s spot hole deep test =
             let filled : (c : Expr) (a : Stmt) → IsTrue (formed_expr d c) → IsTrue (alone (formed_stmt d a)) → Filled layout form (o.plug (spanned end (word word_.KwWhile & write_expr c & word word_.KwDo & write_stmt d a))) =

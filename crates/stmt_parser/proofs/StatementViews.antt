@@ -3,7 +3,6 @@ use Rattle.std.proofs.Common.{◌≡◌, Bool, List, Option, sym, subst}
 use Rattle.p2c_text.specs.declared.place.Span.{Span}
 use Rattle.pascal_tree.specs.declared.names.Identifier.{Identifier}
 use Rattle.pascal_tree.specs.declared.names.Label.{Label}
-use Rattle.pascal_tree.specs.declared.constants.CaseLabel.{CaseLabel}
 use Rattle.pascal_tree.specs.declared.expressions.Args.{Args}
 use Rattle.pascal_tree.specs.declared.expressions.Expr.{Expr}
 use Rattle.pascal_tree.specs.declared.expressions.Place.{Place}

@@ -1,5 +1,5 @@
 -- What the grammar asks of a statement beyond the way in which it is written.
-use Rattle.std.specs.Prelude.{Bool, true, false, ◌&&◌, not, IsTrue, List, [], ◌∷◌, map, Option, Some, None}
+use Rattle.std.specs.Prelude.{Bool, true, false, ◌&&◌, not, List, [], ◌∷◌, map, Option, Some, None}
 use Rattle.p2c_text.specs.declared.dialect.Dialect.{Dialect}
 use Rattle.dialect_lexer.specs.Dialects.{is_turbo}
 use Rattle.pascal_tree.specs.declared.names.Label.{Label}

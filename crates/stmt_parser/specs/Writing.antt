@@ -1,5 +1,5 @@
 -- The grammar of statements: how each node is written by its parts, with a line for each alternative.
-use Rattle.std.specs.Prelude.{List, map, Option, Some, None}
+use Rattle.std.specs.Prelude.{map, Option, Some, None}
 use Rattle.p2c_text.specs.declared.dialect.Dialect.{Dialect}
 use Rattle.p2c_text.specs.declared.dialect.Dialect.TheVariants as dialect
 use Rattle.dialect_lexer.specs.declared.token.Word.{Word as WordSymbol}

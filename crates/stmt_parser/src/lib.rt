@@ -9,6 +9,7 @@
 
 pub mod descent;
 mod headers;
+pub mod laws;
 pub mod parsing;
 mod rests;
 mod simple;

@@ -230,8 +230,14 @@ fn levels_end_at_four_hundred(rt: HostRuntime) {
         answer_of(rt.alloc(), Iso, "a := 1", 398),
         Answer::Tokens(3, 6)
     );
-    assert_eq!(rt; answer_of(rt.alloc(), Iso, "a := 1", 399), Answer::TooDeep(5));
-    assert_eq!(rt; answer_of(rt.alloc(), Iso, "a := 1", 400), Answer::TooDeep(5));
+    assert_eq!(rt;
+        answer_of(rt.alloc(), Iso, "a := 1", 399),
+        Answer::TooDeep(5)
+    );
+    assert_eq!(rt;
+        answer_of(rt.alloc(), Iso, "a := 1", 400),
+        Answer::TooDeep(5)
+    );
     for (before, after, count, want) in [
         ("begin ", "end ", 398, Answer::Tokens(796, 3979)),
         ("begin ", "end ", 399, Answer::Tokens(798, 3989)),

@@ -1,6 +1,6 @@
 use Rattle.std.proofs.Common.{◌≡◌, ◌-◌, ◌+◌, ◌*◌}
 use Rattle.dialect_lexer.specs.declared.token.Symbol.TheVariants.{Semicolon}
-use Rattle.token_parsing.specs.Parser.{again, repeat, begins}
+use Rattle.token_parsing.specs.Parser.{again, begins}
 use Rattle.expr_parser.specs.Tokens.{seen}
 use Rattle.expr_parser.specs.Classes.{symbols}
 use Rattle.stmt_parser.specs.Statements.{more_stmts, next_stmt}

@@ -1,4 +1,4 @@
-use Rattle.std.proofs.Common.{◌≡◌, sym, ap, ◌∙◌, ◌-◌, length, drop, arith}
+use Rattle.std.proofs.Common.{sym, ap, ◌∙◌, arith}
 use Rattle.pascal_tree.specs.declared.statements.Stmt.{Stmt}
 use Rattle.expr_parser.specs.Tokens.{seen}
 use Rattle.stmt_parser.specs.Levels.{stmt}
