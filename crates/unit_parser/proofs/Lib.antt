@@ -11,4 +11,6 @@ pub mod FollowedDeclarations
 pub mod FollowedBlocks
 pub mod FirstWords
 pub mod FollowedFiles
+pub mod SoundRows
+pub mod SoundParts
 pub mod Answered
