@@ -171,6 +171,33 @@ same_place place_of_variables opens_variables e = refl
 same_place place_of_variables opens_procedure e = absurd (omega (arith, e))
 same_place place_of_variables opens_function e = absurd (omega (arith, e))
 
+-- one word has one place
+pub one_place : {w v : WordSymbol} {i j : ℕ} → PlaceOf w i → PlaceOf v j → on_word v (Word w) ≡ true → j ≡ i
+unfolding same_word
+one_place place_of_labels place_of_labels e = refl
+one_place place_of_labels place_of_constants e = absurd cc
+one_place place_of_labels place_of_types e = absurd cc
+one_place place_of_labels place_of_variables e = absurd cc
+one_place place_of_constants place_of_labels e = absurd cc
+one_place place_of_constants place_of_constants e = refl
+one_place place_of_constants place_of_types e = absurd cc
+one_place place_of_constants place_of_variables e = absurd cc
+one_place place_of_types place_of_labels e = absurd cc
+one_place place_of_types place_of_constants e = absurd cc
+one_place place_of_types place_of_types e = refl
+one_place place_of_types place_of_variables e = absurd cc
+one_place place_of_variables place_of_labels e = absurd cc
+one_place place_of_variables place_of_constants e = absurd cc
+one_place place_of_variables place_of_types e = absurd cc
+one_place place_of_variables place_of_variables e = refl
+
+-- a word with a place begins no routine
+pub no_routine : {w : WordSymbol} {i : ℕ} → PlaceOf w i → on_routine (Word w) ≡ false
+no_routine place_of_labels = refl
+no_routine place_of_constants = refl
+no_routine place_of_types = refl
+no_routine place_of_variables = refl
+
 pub place_within : {w : WordSymbol} {i : ℕ} → PlaceOf w i → i < 4
 place_within place_of_labels = omega arith
 place_within place_of_constants = omega arith

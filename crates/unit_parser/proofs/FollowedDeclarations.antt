@@ -71,7 +71,7 @@ last_token_is (Number v) e a b c f = absurd cc
 last_token_is (Text bs) e a b c f = absurd cc
 last_token_is (Symbol s) e a b c f = absurd cc
 
-last_is : (s : List Placed) → begins declaration_words s ≡ true → begins (words word_.KwLabel) s ≡ false → begins (words word_.KwConst) s ≡ false → begins (words word_.KwType) s ≡ false → begins (words word_.KwVar) s ≡ false → begins routine_words s ≡ true
+pub last_is : (s : List Placed) → begins declaration_words s ≡ true → begins (words word_.KwLabel) s ≡ false → begins (words word_.KwConst) s ≡ false → begins (words word_.KwType) s ≡ false → begins (words word_.KwVar) s ≡ false → begins routine_words s ≡ true
 unfolding begins
 last_is [] e a b c f = absurd cc
 last_is (t ∷ s) e a b c f = last_token_is t.token e a b c f
@@ -89,7 +89,7 @@ procedure_token_is (Number v) e a = absurd cc
 procedure_token_is (Text bs) e a = absurd cc
 procedure_token_is (Symbol s) e a = absurd cc
 
-procedure_is : (s : List Placed) → begins routine_words s ≡ true → begins (words word_.KwFunction) s ≡ false → begins (words word_.KwProcedure) s ≡ true
+pub procedure_is : (s : List Placed) → begins routine_words s ≡ true → begins (words word_.KwFunction) s ≡ false → begins (words word_.KwProcedure) s ≡ true
 unfolding begins
 procedure_is [] e a = absurd cc
 procedure_is (t ∷ s) e a = procedure_token_is t.token e a

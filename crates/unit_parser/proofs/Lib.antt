@@ -13,4 +13,5 @@ pub mod FirstWords
 pub mod FollowedFiles
 pub mod SoundRows
 pub mod SoundParts
+pub mod SoundHeadings
 pub mod Answered

@@ -1,5 +1,5 @@
 -- The order of declarations in Iso.
-use Rattle.std.proofs.Common.{◌≡◌, ℕ, zero, suc, ◌<◌, ◌≤◌, ◌⊎◌, inl, inr, Bool, true, false, ◌&&◌, ◌||◌, not, List, [], ◌∷◌, map, refl, sym, ap, subst, arith}
+use Rattle.std.proofs.Common.{◌≡◌, ℕ, zero, suc, ◌<◌, ◌≤◌, ◌⊎◌, inl, inr, Bool, true, false, ◌&&◌, ◌||◌, not, List, [], ◌∷◌, ◌++◌, map, refl, sym, ap, subst, arith}
 use Rattle.std.specs.Prelude.{IsTrue, ◌==◌, nat_lt}
 use Rattle.std.proofs.lemmas.Bool.{ltb-true, lt-ltb, eqb-true, eq-eqb}
 use Rattle.std.proofs.lemmas.Simd.{map-map}
@@ -88,6 +88,31 @@ module _ (d : Dialect) where
 
   pub routine_place : (x : Declaration) → IsTrue (formed_routine_one x) → place x ≡ 4
   routine_place x h = eqb-true (place x) 4 (and_out (formed_one x) (place x == 4) h).1
+
+  -- ---- one declaration more
+
+  -- the last, if there is one, has an earlier place
+  abbrev pub LastBelow : ℕ → List Declaration → Type 0
+  LastBelow i [] = Unit {0}
+  LastBelow i (x ∷ []) = place x < i
+  LastBelow i (x ∷ y ∷ ys) = LastBelow i (y ∷ ys)
+
+  pub below_more : (i : ℕ) (xs : List Declaration) → LastBelow i xs → LastBelow (suc i) xs
+  below_more i [] h = tt
+  below_more i (x ∷ []) h = omega (arith, h)
+  below_more i (x ∷ y ∷ ys) h = below_more i (y ∷ ys) h
+
+  pub below_push : (i : ℕ) (xs : List Declaration) (x : Declaration) → place x < i → LastBelow i (xs ++ x ∷ [])
+  below_push i [] x h = h
+  below_push i (y ∷ []) x h = h
+  below_push i (y ∷ z ∷ zs) x h = below_push i (z ∷ zs) x h
+
+  pub order_push : (xs : List Declaration) (x : Declaration) → InOrder xs → LastBelow (place x) xs ⊎ (place x ≡ 4) → InOrder (xs ++ x ∷ [])
+  order_push [] x h k = refl
+  order_push (y ∷ []) x h k = and_in (may_follow (judged_declaration d y) (judged_declaration d x)) true (place_follows (judged_declaration d y) (judged_declaration d x) k) refl
+  order_push (y ∷ z ∷ zs) x h k =
+      let both = and_out (may_follow (judged_declaration d y) (judged_declaration d z)) (are_in_order (map (judged_declaration d) (z ∷ zs))) h in
+      and_in (may_follow (judged_declaration d y) (judged_declaration d z)) _ both.0 (order_push (z ∷ zs) x both.1 k)
 
   -- ---- what is asked of declarations
 
