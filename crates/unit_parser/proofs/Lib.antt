@@ -14,4 +14,5 @@ pub mod FollowedFiles
 pub mod SoundRows
 pub mod SoundParts
 pub mod SoundHeadings
+pub mod SoundDeclarations
 pub mod Answered
