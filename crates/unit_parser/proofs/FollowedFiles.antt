@@ -82,7 +82,7 @@ public_token_is (Number v) e a b c = absurd cc
 public_token_is (Text bs) e a b c = absurd cc
 public_token_is (Symbol s) e a b c = absurd cc
 
-public_routine_is : (s : List Placed) → begins public_words s ≡ true → begins (words word_.KwConst) s ≡ false → begins (words word_.KwType) s ≡ false → begins (words word_.KwVar) s ≡ false → begins routine_words s ≡ true
+pub public_routine_is : (s : List Placed) → begins public_words s ≡ true → begins (words word_.KwConst) s ≡ false → begins (words word_.KwType) s ≡ false → begins (words word_.KwVar) s ≡ false → begins routine_words s ≡ true
 unfolding begins
 public_routine_is [] e a b c = absurd cc
 public_routine_is (t ∷ s) e a b c = public_token_is t.token e a b c

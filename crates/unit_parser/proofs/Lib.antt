@@ -15,4 +15,9 @@ pub mod SoundRows
 pub mod SoundParts
 pub mod SoundHeadings
 pub mod SoundDeclarations
+pub mod SoundBlocks
+pub mod UnitWords
+pub mod SoundPrograms
+pub mod SoundUnits
+pub mod Clauses
 pub mod Answered

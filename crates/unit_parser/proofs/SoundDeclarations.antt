@@ -48,7 +48,7 @@ pub record Ways (s : List Placed) (Allowed : ℕ → Type 0) : Type 0 where
 any_ways : (s : List Placed) → begins declaration_words s ≡ true → Ways s (λ _. Unit {0})
 any_ways s test = record { by_word = λ p e. tt; otherwise = λ a b c f. (last_is s test a b c f, tt) }
 
-on_word_is : (w : WordSymbol) (x : Token) → on_word w x ≡ true → x ≡ Word w
+pub on_word_is : (w : WordSymbol) (x : Token) → on_word w x ≡ true → x ≡ Word w
 on_word_is w x e = by (word_of w x) refl e
   where
     by : (o : Option (Unit {0})) → word_of w x ≡ o → is_some o ≡ true → x ≡ Word w
