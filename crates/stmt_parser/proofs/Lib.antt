@@ -18,3 +18,4 @@ pub mod SoundLoops
 pub mod SoundCases
 pub mod SoundLevels
 pub mod Clauses
+pub mod Examples

@@ -1,5 +1,5 @@
 -- What may stand where a part is wanted.
-use Rattle.std.proofs.Common.{ℕ, true, false, [], ◌∷◌, map, None, refl, sym, subst, ◌∙◌}
+use Rattle.std.proofs.Common.{true, false, [], ◌∷◌, map, None, refl, sym, subst, ◌∙◌}
 use Rattle.std.specs.Prelude.{IsTrue}
 use Rattle.p2c_text.specs.declared.dialect.Dialect.{Dialect}
 use Rattle.p2c_text.specs.declared.dialect.Dialect.TheVariants as dialect

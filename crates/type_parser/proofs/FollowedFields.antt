@@ -1,5 +1,5 @@
 -- Lists of fields of a text are followed, and with them all types.
-use Rattle.std.proofs.Common.{◌≡◌, ℕ, zero, suc, ◌≤◌, Bool, true, false, ◌&&◌, not, List, [], ◌∷◌, length, map, Option, Some, None, Ok, refl, sym, ap, subst, ◌∙◌, arith}
+use Rattle.std.proofs.Common.{◌≡◌, ℕ, zero, suc, ◌≤◌, Bool, true, false, ◌&&◌, List, [], ◌∷◌, length, map, Option, Some, None, Ok, refl, sym, ap, subst, ◌∙◌, arith}
 use Rattle.std.specs.Prelude.{IsTrue}
 use Rattle.std.specs.Option.{option_map}
 use Rattle.p2c_text.specs.declared.dialect.Dialect.{Dialect}
@@ -12,28 +12,27 @@ use Rattle.pascal_tree.specs.declared.types.Fields.{Fields, out-Fields}
 use Rattle.pascal_tree.specs.declared.types.Fixed.{Fixed, out-Fixed}
 use Rattle.pascal_tree.specs.declared.types.FixedSection.{FixedSection, out-FixedSection}
 use Rattle.pascal_tree.specs.declared.types.Variants.{Variants}
-use Rattle.token_parsing.specs.Parser.{Outcome, Parser, and_then, begins, one_of}
+use Rattle.token_parsing.specs.Parser.{Parser, and_then, begins}
 use Rattle.token_parsing.proofs.Tracked.{Shorter, Shrinks, short_then, one_shrinks, then_shrinks, pure_shrinks}
 use Rattle.expr_parser.specs.Tokens.{Token, Placed, Symbol, Word}
-use Rattle.expr_parser.specs.Layout.{Layout, Done, ◌&◌, symbol, spanned, counted, height_of}
+use Rattle.expr_parser.specs.Layout.{Layout, ◌&◌, symbol, spanned, counted, height_of}
 use Rattle.expr_parser.specs.Spans.{span_between}
 use Rattle.expr_parser.specs.Semicolons.{with_semicolons, optional_semicolon as write_semicolon}
 use Rattle.expr_parser.specs.Grammar.{some_all, optional}
-use Rattle.expr_parser.specs.Classes.{identifiers, words, symbols, expect, same_word, same_symbol}
+use Rattle.expr_parser.specs.Classes.{identifiers, symbols, expect, same_word, same_symbol}
 use Rattle.expr_parser.specs.Places.{made}
 use Rattle.expr_parser.proofs.Layouts.{spell, spell_join}
-use Rattle.expr_parser.proofs.Lookahead.{looks_name, looks_word, looks_symbol, on_name, on_word, on_symbol, accepts_symbol}
+use Rattle.expr_parser.proofs.Lookahead.{looks_name, looks_word, looks_symbol, on_name, on_word, accepts_symbol}
 use Rattle.expr_parser.proofs.Followed.{Until, Along, Begun, Followed, too_deep, on_first, follow_then, follow_pure, follow_token, follow_first, follow_second, begun_token, looks_at}
 use Rattle.expr_parser.proofs.FollowedParts.{Part, part_as, part_first, part_second, part_left, part_right, part_inside, part_counted, and_out, along_as}
 use Rattle.type_parser.specs.Writing.{write_names, fixed_and_variants, write_type, write_fields, write_fixed, write_section, write_variants}
 use Rattle.type_parser.specs.Grammar.{some_names, may_close, formed_type, formed_fields, formed_fixed, formed_section, formed_variants}
-use Rattle.type_parser.specs.Names.{names}
-use Rattle.type_parser.specs.Fields.{section, next_section, more_sections, fixed_of, fixed, variants, optional_variants, optional_semicolon, fields_of, with_fixed, only_variants, no_fields, fields_by}
+use Rattle.type_parser.specs.Fields.{section, next_section, more_sections, fixed_of, fixed, optional_variants, optional_semicolon, fields_of, with_fixed, only_variants, no_fields, fields_by}
 use Rattle.type_parser.specs.Levels.{type_node, fields}
 use Rattle.type_parser.proofs.WrittenNodes.{write_type_structured, write_type_pointer, write_type_enumeration, write_type_subrange, write_type_named, write_type_string, write_fields_of, write_fixed_of, write_section_of}
 use Rattle.type_parser.proofs.FormedNodes.{formed_fields_of, formed_fixed_of, formed_section_of}
 use Rattle.type_parser.proofs.Views.{type_cases, fields_is, fixed_is, section_is}
-use Rattle.type_parser.proofs.Shrinks.{semicolon_shrinks, section_shrinks, more_sections_shrinks, optional_variants_shrinks, type_shrinks, fields_shrinks}
+use Rattle.type_parser.proofs.Shrinks.{semicolon_shrinks, section_shrinks, optional_variants_shrinks, type_shrinks, fields_shrinks}
 use Rattle.type_parser.proofs.FollowedNames.{names_followed, looks_true}
 use Rattle.type_parser.proofs.FollowedTypes.{TypeEnds, marks_end, Closing, at_close, at_end, TypeFollowed, FieldsFollowed, type_by_followed}
 use Rattle.type_parser.proofs.FollowedRows.{joined_behind, NoMore, other, closing, row_followed}

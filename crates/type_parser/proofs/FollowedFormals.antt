@@ -1,8 +1,7 @@
 -- Formal parameters of a text are followed.
-use Rattle.std.proofs.Common.{◌≡◌, ℕ, zero, suc, ◌≤◌, Bool, true, false, ◌&&◌, List, [], ◌∷◌, ◌++◌, length, map, Option, Some, None, Ok, refl, sym, ap, subst, ◌∙◌, arith}
+use Rattle.std.proofs.Common.{◌≡◌, ℕ, zero, suc, ◌≤◌, Bool, true, false, List, [], ◌∷◌, ◌++◌, length, map, Option, Some, None, Ok, refl, sym, ap, subst, ◌∙◌, arith}
 use Rattle.std.specs.Prelude.{IsTrue}
 use Rattle.std.specs.Option.{option_map}
-use Rattle.p2c_text.specs.declared.dialect.Dialect.TheVariants as dialect
 use Rattle.p2c_text.specs.declared.place.Span.{Span}
 use Rattle.dialect_lexer.specs.declared.token.Word.TheVariants as word_
 use Rattle.dialect_lexer.specs.declared.token.Symbol.TheVariants as mark
@@ -11,21 +10,20 @@ use Rattle.pascal_tree.specs.declared.types.TypeName.{TypeName}
 use Rattle.pascal_tree.specs.declared.declarations.Formal.{Formal}
 use Rattle.pascal_tree.specs.declared.declarations.Formal.TheVariants as formal_
 use Rattle.pascal_tree.specs.declared.declarations.Formals.{Formals, out-Formals}
-use Rattle.token_parsing.specs.Parser.{Parser, and_then, begins, repeat}
+use Rattle.token_parsing.specs.Parser.{Parser, and_then, begins}
 use Rattle.token_parsing.proofs.Tracked.{Shrinks, one_shrinks, then_shrinks, pure_shrinks, repeat_shrinks, takes_token}
 use Rattle.expr_parser.specs.Tokens.{Token, Placed, Name, Word, Symbol}
-use Rattle.expr_parser.specs.Layout.{Layout, ◌&◌, word, symbol, spanned, counted, height_of}
+use Rattle.expr_parser.specs.Layout.{◌&◌, word, symbol, spanned, counted, height_of}
 use Rattle.expr_parser.specs.Semicolons.{after_semicolons, with_semicolons, optional_part}
 use Rattle.expr_parser.specs.Writing.{identifier}
 use Rattle.expr_parser.specs.Grammar.{all, some_all, optional}
-use Rattle.expr_parser.specs.Classes.{identifiers, words, symbols, expect, same_word, same_symbol}
+use Rattle.expr_parser.specs.Classes.{identifiers, words, symbols, same_word, same_symbol}
 use Rattle.expr_parser.proofs.Layouts.{spell, spell_join}
-use Rattle.expr_parser.proofs.Lookahead.{looks_word, looks_symbol, on_word, on_symbol, on_symbol_here, accepts_name, accepts_word, accepts_symbol}
+use Rattle.expr_parser.proofs.Lookahead.{looks_word, looks_symbol, on_symbol, on_symbol_here, accepts_name, accepts_word, accepts_symbol}
 use Rattle.expr_parser.proofs.Followed.{Until, Along, Followed, too_deep, on_first, follow_then, follow_pure, follow_token, follow_first, follow_second, begun_token, looks_at, looks_false, Listing, Items, follow_list}
 use Rattle.expr_parser.proofs.FollowedParts.{Part, part_as, part_first, part_second, part_left, part_right, part_inside, part_counted, along_as}
 use Rattle.type_parser.specs.Writing.{write_names, write_type_name, optional_word, write_formal, write_formals}
 use Rattle.type_parser.specs.Grammar.{some_names, formed_formal, formed_formals}
-use Rattle.type_parser.specs.Names.{names}
 use Rattle.type_parser.specs.Formals.{optional_formals, optional_var, result, variables, procedure, function, formal, next_formal, more_formals, listed_formals, formals_by}
 use Rattle.type_parser.specs.Levels.{formals}
 use Rattle.type_parser.proofs.WrittenNodes.{write_formal_variables, write_formal_procedure, write_formal_function, write_formals_of}

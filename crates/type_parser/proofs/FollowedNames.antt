@@ -1,5 +1,5 @@
 -- Lists of names, and names of types, of a text are followed.
-use Rattle.std.proofs.Common.{◌≡◌, ℕ, ◌<◌, Bool, true, false, ◌&&◌, List, [], ◌∷◌, length, map, refl, ◌∙◌, arith}
+use Rattle.std.proofs.Common.{◌≡◌, ◌<◌, Bool, true, false, ◌&&◌, List, [], ◌∷◌, length, map, refl, ◌∙◌, arith}
 use Rattle.std.specs.Prelude.{IsTrue}
 use Rattle.p2c_text.specs.declared.place.Span.{Span}
 use Rattle.dialect_lexer.specs.declared.token.Word.TheVariants as word_
@@ -10,9 +10,9 @@ use Rattle.pascal_tree.specs.declared.types.TypeName.TheVariants as name_
 use Rattle.token_parsing.specs.Parser.{one_of}
 use Rattle.token_parsing.proofs.Tracked.{one_shrinks, pure_shrinks}
 use Rattle.expr_parser.specs.Tokens.{Token, Placed}
-use Rattle.expr_parser.specs.Layout.{after_commas, with_commas, height_of}
+use Rattle.expr_parser.specs.Layout.{after_commas, height_of}
 use Rattle.expr_parser.specs.Writing.{identifier}
-use Rattle.expr_parser.specs.Grammar.{all, some_all}
+use Rattle.expr_parser.specs.Grammar.{all}
 use Rattle.expr_parser.specs.Classes.{identifiers, words}
 use Rattle.expr_parser.proofs.Layouts.{spell}
 use Rattle.expr_parser.proofs.Lookahead.{looks_name, on_symbol, accepts_name, accepts_word}

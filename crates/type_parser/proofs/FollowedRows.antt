@@ -5,13 +5,13 @@ use Rattle.dialect_lexer.specs.declared.token.Symbol.TheVariants as mark
 use Rattle.token_parsing.specs.Parser.{Outcome, Parser, and_then, begins, rest, again, repeat}
 use Rattle.token_parsing.proofs.Tracked.{Shorter, short, refuses_short, stops_short, Shrinks, Takes, short_then, again_shrinks, repeat_shrinks, one_shrinks, then_shrinks, pure_shrinks, takes_token}
 use Rattle.expr_parser.specs.Tokens.{Token, Placed, Symbol}
-use Rattle.expr_parser.specs.Layout.{Layout, Done, ◌&◌, symbol}
+use Rattle.expr_parser.specs.Layout.{Layout, ◌&◌, symbol}
 use Rattle.expr_parser.specs.Semicolons.{after_semicolons, with_semicolons}
 use Rattle.expr_parser.specs.Grammar.{all, some_all}
 use Rattle.expr_parser.specs.Classes.{symbols, expect, same_symbol}
 use Rattle.expr_parser.proofs.Layouts.{spell, spell_join}
 use Rattle.expr_parser.proofs.Lookahead.{looks_symbol, on_symbol, on_symbol_here, accepts_symbol}
-use Rattle.expr_parser.proofs.Followed.{Until, limit, Along, Looks, Begun, Followed, meets, past, refuses_past, too_deep, on_first, short_followed, follow_then, follow_pure, follow_token, begun_token, looks_at}
+use Rattle.expr_parser.proofs.Followed.{Until, Along, Looks, Begun, Followed, meets, past, refuses_past, too_deep, on_first, short_followed, follow_then, follow_pure, follow_token, begun_token, looks_at}
 use Rattle.expr_parser.proofs.FollowedParts.{Part, part_first, part_second, part_right, along_as}
 use Rattle.type_parser.proofs.FollowedNames.{Next, next_is_last, next_is, next_of, looks_true, first_false, second_false, both_true, first_true}
 
@@ -143,6 +143,7 @@ module _ (n : Until) (W : Type 0) {A : Type 0} (k : ℕ) (write : A → Layout) 
           let more = after_semicolons (map write xs) in
           let p = part_right (symbol mark.Semicolon) (write x & more) part in
           turn x (part_first (write x) more _ _ p) (others xs) (ends_before ends xs) g found s enough (along_as (ap (λ w. Symbol mark.Semicolon ∷ w) (spell_join (write x) more after)) h) (more_read ends xs (part_second (write x) more _ _ p))
+
       pub row_followed : P after → (xs : List A) → Part W k (with_semicolons (map write xs)) (some_all (map formed xs)) → (s : List Placed) → Along n (spell (with_semicolons (map write xs)) after) s
           → Followed n W rest' (and_then (one s) (λ x s. and_then (repeat test next (x ∷ []) s) f))
       unfolding repeat

@@ -1,13 +1,11 @@
 -- Types of a text are followed.
-use Rattle.std.proofs.Common.{◌≡◌, ℕ, suc, ◌<◌, Bool, true, false, ◌&&◌, not, List, [], ◌∷◌, length, map, Option, Some, None, Ok, refl, sym, ap, subst, ◌∙◌}
-use Rattle.std.specs.Prelude.{IsTrue}
+use Rattle.std.proofs.Common.{◌≡◌, ℕ, suc, ◌<◌, Bool, true, false, not, List, [], ◌∷◌, length, map, Option, Some, None, Ok, refl, sym, ap, subst, ◌∙◌}
 use Rattle.p2c_text.specs.declared.dialect.Dialect.{Dialect}
 use Rattle.p2c_text.specs.declared.dialect.Dialect.TheVariants as dialect
 use Rattle.p2c_text.specs.declared.place.Span.{Span}
 use Rattle.dialect_lexer.specs.declared.token.Word.TheVariants as word_
 use Rattle.dialect_lexer.specs.declared.token.Symbol.TheVariants as mark
 use Rattle.pascal_tree.specs.declared.names.Identifier.{Identifier}
-use Rattle.pascal_tree.specs.declared.constants.Sign.{Sign}
 use Rattle.pascal_tree.specs.declared.constants.Sign.TheVariants as a_sign
 use Rattle.pascal_tree.specs.declared.constants.Constant.{Constant}
 use Rattle.pascal_tree.specs.declared.constants.Constant.TheVariants as a_constant
@@ -18,11 +16,10 @@ use Rattle.pascal_tree.specs.declared.types.Struct.TheVariants as struct_
 use Rattle.pascal_tree.specs.declared.types.Fields.{Fields}
 use Rattle.token_parsing.specs.Parser.{Outcome, Parser, and_then, is_some, begins, one_of, rest}
 use Rattle.token_parsing.proofs.Tracked.{Shorter, Shrinks, one_shrinks, pure_shrinks, then_shrinks}
-use Rattle.expr_parser.specs.Tokens.{Token, Placed, Name, Number, Text, Word, Symbol}
+use Rattle.expr_parser.specs.Tokens.{Token, Placed, Name, Word, Symbol}
 use Rattle.expr_parser.specs.Layout.{Layout, ◌&◌, word, symbol, with_commas}
-use Rattle.expr_parser.specs.Writing.{identifier}
 use Rattle.expr_parser.specs.Grammar.{some_all}
-use Rattle.expr_parser.specs.Classes.{identifiers, words, symbols, operator_of, expect, expect_word, same_word, same_symbol}
+use Rattle.expr_parser.specs.Classes.{identifiers, words, symbols, operator_of, expect, same_word, same_symbol}
 use Rattle.expr_parser.specs.Places.{made}
 use Rattle.expr_parser.specs.Constants.{constant, text_constant, signed_constant, unsigned_constant, name_constant}
 use Rattle.expr_parser.specs.ConstantNodes.{write_constant}
@@ -35,12 +32,12 @@ use Rattle.expr_parser.proofs.FollowedLists.{commas_followed}
 use Rattle.expr_parser.proofs.FollowedConstants.{constant_followed}
 use Rattle.expr_parser.proofs.ConstantShrinks.{constant_shrinks}
 use Rattle.type_parser.specs.Writing.{write_names, optional_word, optional_limit as write_limit, write_struct, write_type, write_fields}
-use Rattle.type_parser.specs.Grammar.{some_names, formed_struct, formed_type, formed_fields}
+use Rattle.type_parser.specs.Grammar.{formed_struct, formed_type, formed_fields}
 use Rattle.type_parser.specs.Types.{pointer, enumeration, subrange, named, optional_limit, string_type, begins_name_alone, simple_type, of_type, next_type, more_types, types, indexes, array, record_type, set_type, file_type, structure, optional_packed, structured, struct_word_of, struct_words, type_by}
 use Rattle.type_parser.proofs.WrittenNodes.{write_struct_array, write_struct_record, write_struct_set, write_struct_file, write_type_structured, write_type_pointer, write_type_enumeration, write_type_subrange, write_type_named, write_type_string}
 use Rattle.type_parser.proofs.FormedNodes.{formed_struct_array, formed_struct_record, formed_struct_set, formed_type_structured, formed_type_enumeration, formed_struct_file}
 use Rattle.type_parser.proofs.Views.{type_cases, struct_cases}
-use Rattle.type_parser.proofs.Shrinks.{names_shrinks, limit_shrinks, packed_shrinks, of_type_shrinks, types_shrinks, indexes_shrinks, structure_shrinks}
+use Rattle.type_parser.proofs.Shrinks.{names_shrinks, limit_shrinks, of_type_shrinks, types_shrinks, indexes_shrinks, structure_shrinks}
 use Rattle.type_parser.proofs.FollowedNames.{names_followed, Next, next_is_last, next_is, next_of, looks_true, some_first, first_false}
 
 -- ---- what may follow

@@ -1,5 +1,5 @@
 -- Variants of records of a text are followed.
-use Rattle.std.proofs.Common.{◌≡◌, ℕ, suc, ◌<◌, ◌≤◌, Bool, true, false, ◌&&◌, ◌||◌, List, [], ◌∷◌, length, map, Option, Some, None, Ok, refl, sym, ap, subst, ◌∙◌, arith, true≢false}
+use Rattle.std.proofs.Common.{◌≡◌, ℕ, Bool, true, false, ◌&&◌, ◌||◌, List, [], ◌∷◌, length, map, Option, Some, None, Ok, refl, sym, ap, subst, ◌∙◌, arith, true≢false}
 use Rattle.std.specs.Prelude.{IsTrue}
 use Rattle.std.specs.Option.{option_map}
 use Rattle.p2c_text.specs.declared.dialect.Dialect.{Dialect}
@@ -20,30 +20,28 @@ use Rattle.token_parsing.specs.Parser.{Outcome, Parser, and_then, begins, one_of
 use Rattle.token_parsing.proofs.Tracked.{Shorter, Shrinks, short_then, one_shrinks, then_shrinks, pure_shrinks}
 use Rattle.expr_parser.specs.Tokens.{Token, Placed, Name, Word, Symbol}
 use Rattle.expr_parser.specs.Layout.{Layout, Done, ◌&◌, word, symbol, spanned, after_commas, with_commas}
-use Rattle.expr_parser.specs.Semicolons.{with_semicolons, optional_semicolon as write_semicolon}
-use Rattle.expr_parser.specs.Writing.{identifier}
+use Rattle.expr_parser.specs.Semicolons.{with_semicolons}
 use Rattle.expr_parser.specs.Grammar.{some_all, optional}
 use Rattle.expr_parser.specs.Classes.{identifiers, numbers, texts, words, symbols, expect, expect_word, same_word, same_symbol}
 use Rattle.expr_parser.specs.Spans.{span_between}
 use Rattle.expr_parser.specs.Places.{made}
-use Rattle.expr_parser.specs.Constants.{begins_constant, case_labels}
+use Rattle.expr_parser.specs.Constants.{begins_constant}
 use Rattle.expr_parser.specs.ConstantNodes.{write_constant, write_case_label, formed_case_label}
 use Rattle.expr_parser.proofs.Layouts.{spell, spell_join}
 use Rattle.expr_parser.proofs.Lookahead.{looks_sign, looks_name, looks_number, looks_text, looks_word, looks_symbol, on_sign, on_name, on_number, on_text, on_word, on_symbol, on_symbol_here, accepts_name, accepts_word, accepts_symbol}
-use Rattle.expr_parser.proofs.Followed.{Until, limit, Along, Looks, Begun, Followed, on_first, short_followed, follow_then, follow_pure, follow_token, follow_first, follow_second, begun_token, looks_at, looks_false}
+use Rattle.expr_parser.proofs.Followed.{Until, Along, Looks, Begun, Followed, on_first, short_followed, follow_then, follow_pure, follow_token, begun_token, looks_at, looks_false}
 use Rattle.expr_parser.proofs.FollowedParts.{Part, part_as, part_first, part_second, part_left, part_right, part_inside, and_out, along_as}
 use Rattle.expr_parser.proofs.FollowedConstants.{case_labels_followed}
-use Rattle.expr_parser.proofs.ConstantShrinks.{case_labels_shrinks}
 use Rattle.type_parser.specs.Writing.{optional_tag as write_tag, write_type_name, write_fields, write_variant, write_variants}
 use Rattle.type_parser.specs.Grammar.{formed_fields, formed_variant, formed_variants}
 use Rattle.type_parser.specs.Names.{string_name, type_name}
-use Rattle.type_parser.specs.Fields.{group, variant, begins_next_variant, next_variant, more_variants, variant_list, begins_tag, optional_tag, selector, variants_of, variants, begins_more_variants, optional_variants, optional_semicolon}
+use Rattle.type_parser.specs.Fields.{group, variant, next_variant, more_variants, variant_list, begins_tag, optional_tag, selector, variants_of, variants, begins_more_variants, optional_variants}
 use Rattle.type_parser.proofs.WrittenNodes.{write_variant_of, write_variants_of}
 use Rattle.type_parser.proofs.FormedNodes.{formed_variant_of, formed_variants_of}
 use Rattle.type_parser.proofs.Views.{variant_is, variants_is}
-use Rattle.type_parser.proofs.Shrinks.{type_name_shrinks, tag_shrinks, semicolon_shrinks, selector_shrinks, group_shrinks, variant_shrinks, variant_list_shrinks, variants_shrinks}
-use Rattle.type_parser.proofs.FollowedNames.{type_name_followed, Next, next_is_last, next_is, next_of, looks_true, some_first, first_false, second_false, both_true, first_true, second_true}
-use Rattle.type_parser.proofs.FollowedTypes.{Closing, at_close, at_end, FieldsFollowed}
+use Rattle.type_parser.proofs.Shrinks.{type_name_shrinks, tag_shrinks, group_shrinks, variant_shrinks, variant_list_shrinks, variants_shrinks}
+use Rattle.type_parser.proofs.FollowedNames.{type_name_followed, Next, next_is_last, next_is, next_of, first_false, second_false, both_true}
+use Rattle.type_parser.proofs.FollowedTypes.{at_close, FieldsFollowed}
 use Rattle.type_parser.proofs.FollowedRows.{joined, joined_row, shorter_still, NoMore, other, closing, row_followed}
 
 -- ---- with what a constant begins

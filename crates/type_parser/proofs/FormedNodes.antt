@@ -1,5 +1,5 @@
 -- Which types and lists of formal parameters are formed as the grammar asks, by their parts as programs see them.
-use Rattle.std.proofs.Common.{◌≡◌, ℕ, Bool, true, ◌&&◌, List, map, Option, Some, None, sym, ap, ◌∙◌}
+use Rattle.std.proofs.Common.{◌≡◌, Bool, true, ◌&&◌, List, map, Option, Some, None, sym, ap, ◌∙◌}
 use Rattle.std.specs.Option.{option_map}
 use Rattle.p2c_text.specs.declared.place.Span.{Span}
 use Rattle.p2c_text.specs.declared.dialect.Dialect.{Dialect}

@@ -16,3 +16,4 @@ pub mod SoundVariants
 pub mod SoundFields
 pub mod SoundFormals
 pub mod Clauses
+pub mod Examples

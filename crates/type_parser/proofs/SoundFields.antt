@@ -1,5 +1,5 @@
 -- Lists of fields that are read, and with them all types.
-use Rattle.std.proofs.Common.{◌≡◌, ℕ, zero, suc, ◌+◌, ◌≤◌, Bool, true, false, ◌&&◌, List, [], ◌∷◌, length, map, Option, Some, None, refl, sym, ap, subst, ◌∙◌, arith}
+use Rattle.std.proofs.Common.{◌≡◌, ℕ, zero, suc, ◌+◌, Bool, true, false, ◌&&◌, List, [], ◌∷◌, length, map, Option, Some, None, refl, sym, ap, subst, ◌∙◌, arith}
 use Rattle.std.specs.Prelude.{IsTrue}
 use Rattle.std.specs.Option.{option_map}
 use Rattle.std.specs.List.{Contains}
@@ -13,7 +13,7 @@ use Rattle.pascal_tree.specs.declared.types.Fields.{Fields}
 use Rattle.pascal_tree.specs.declared.types.Fixed.{Fixed}
 use Rattle.pascal_tree.specs.declared.types.FixedSection.{FixedSection}
 use Rattle.pascal_tree.specs.declared.types.Variants.{Variants}
-use Rattle.token_parsing.specs.Parser.{Outcome, Parser, and_then, begins}
+use Rattle.token_parsing.specs.Parser.{Outcome, Parser, begins}
 use Rattle.token_parsing.proofs.Fair.{reads, fair_then, fair_either}
 use Rattle.expr_parser.specs.Tokens.{Placed, plain}
 use Rattle.expr_parser.specs.Spans.{span_between}

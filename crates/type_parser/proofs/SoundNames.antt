@@ -1,21 +1,18 @@
 -- Lists of names, and names of types, that are read.
-use Rattle.std.proofs.Common.{◌≡◌, ℕ, ◌+◌, ◌≤◌, Bool, true, List, [], ◌∷◌, map, Ok, Err, refl, sym, ap, subst, ◌∙◌, arith}
-use Rattle.std.specs.Prelude.{IsTrue}
+use Rattle.std.proofs.Common.{◌≡◌, ℕ, Bool, true, List, Ok, Err, refl, sym, subst, arith}
 use Rattle.p2c_text.specs.declared.dialect.Dialect.{Dialect}
 use Rattle.p2c_text.specs.declared.place.Span.{Span}
 use Rattle.dialect_lexer.specs.declared.token.Word.{Word as WordSymbol}
 use Rattle.dialect_lexer.specs.declared.token.Word.TheVariants as word_
-use Rattle.dialect_lexer.specs.declared.token.Symbol.TheVariants as mark
 use Rattle.pascal_tree.specs.declared.names.Identifier.{Identifier}
-use Rattle.pascal_tree.specs.declared.types.TypeName.{TypeName}
 use Rattle.pascal_tree.specs.declared.types.TypeName.TheVariants as name_
 use Rattle.token_parsing.specs.Parser.{Outcome, Parser, and_then, one_of, begins}
 use Rattle.token_parsing.proofs.Fair.{reads, fair_either, fair_so}
 use Rattle.expr_parser.specs.Tokens.{Placed, plain, Word}
-use Rattle.expr_parser.specs.Layout.{Layout, word, spanned, with_commas, height_of, IsWritten}
+use Rattle.expr_parser.specs.Layout.{Layout, word, IsWritten}
 use Rattle.expr_parser.specs.Spans.{span_between}
 use Rattle.expr_parser.specs.Writing.{identifier}
-use Rattle.expr_parser.specs.Grammar.{AreTokens, some_all}
+use Rattle.expr_parser.specs.Grammar.{AreTokens}
 use Rattle.expr_parser.specs.Text.{Begins}
 use Rattle.expr_parser.specs.Classes.{identifiers, words, expect_word}
 use Rattle.expr_parser.proofs.ClassTokens.{identifier_is, word_is}

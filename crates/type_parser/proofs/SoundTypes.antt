@@ -1,26 +1,24 @@
 -- Types that are read.
-use Rattle.std.proofs.Common.{◌≡◌, ℕ, suc, ◌+◌, ◌≤◌, Bool, true, false, ◌&&◌, List, [], ◌∷◌, ◌++◌, length, map, Option, Some, None, refl, sym, ap, subst, ◌∙◌, arith}
+use Rattle.std.proofs.Common.{◌≡◌, ℕ, suc, ◌+◌, Bool, true, false, List, [], ◌∷◌, map, Some, None, refl, sym, ap, subst, ◌∙◌, arith}
 use Rattle.std.specs.Prelude.{IsTrue}
 use Rattle.p2c_text.specs.declared.dialect.Dialect.{Dialect}
 use Rattle.p2c_text.specs.declared.place.Span.{Span}
 use Rattle.dialect_lexer.specs.declared.token.Word.TheVariants as word_
 use Rattle.dialect_lexer.specs.declared.token.Symbol.TheVariants as mark
-use Rattle.pascal_tree.specs.declared.names.Identifier.{Identifier}
 use Rattle.pascal_tree.specs.declared.constants.Constant.{Constant}
 use Rattle.pascal_tree.specs.declared.types.TypeNode.{TypeNode}
 use Rattle.pascal_tree.specs.declared.types.TypeNode.TheVariants as node_
 use Rattle.pascal_tree.specs.declared.types.Struct.{Struct}
 use Rattle.pascal_tree.specs.declared.types.Struct.TheVariants as struct_
 use Rattle.pascal_tree.specs.declared.types.Fields.{Fields}
-use Rattle.token_parsing.specs.Parser.{Outcome, Parser, and_then, begins}
+use Rattle.token_parsing.specs.Parser.{Outcome, Parser, begins}
 use Rattle.token_parsing.proofs.Fair.{reads, fair_then, fair_either, fair_so}
 use Rattle.expr_parser.specs.Tokens.{Placed, plain}
 use Rattle.expr_parser.specs.Spans.{span_between}
 use Rattle.expr_parser.specs.Layout.{Layout, ◌&◌, word, symbol, spanned, with_commas, tokens_of, height_of, IsWritten}
 use Rattle.expr_parser.specs.Writing.{identifier}
 use Rattle.expr_parser.specs.Grammar.{AreTokens, some_all}
-use Rattle.expr_parser.specs.Classes.{identifiers, words, symbols, expect}
-use Rattle.expr_parser.specs.Places.{made}
+use Rattle.expr_parser.specs.Classes.{identifiers, words, symbols}
 use Rattle.expr_parser.specs.ConstantNodes.{write_constant}
 use Rattle.expr_parser.proofs.Layouts.{height_join, join_assoc, written_join}
 use Rattle.expr_parser.proofs.FollowedParts.{and_in}

@@ -1,33 +1,30 @@
 -- Variants of records that are read.
-use Rattle.std.proofs.Common.{◌≡◌, ℕ, ◌+◌, ◌≤◌, Bool, true, false, ◌&&◌, List, [], ◌∷◌, map, Option, Some, None, refl, sym, ap, subst, ◌∙◌, arith}
+use Rattle.std.proofs.Common.{◌≡◌, ℕ, ◌+◌, Bool, true, List, [], ◌∷◌, map, Option, Some, None, refl, sym, ap, subst, ◌∙◌, arith}
 use Rattle.std.specs.Prelude.{IsTrue}
 use Rattle.std.specs.Option.{option_map}
 use Rattle.p2c_text.specs.declared.dialect.Dialect.{Dialect}
 use Rattle.p2c_text.specs.declared.place.Span.{Span}
 use Rattle.dialect_lexer.specs.declared.token.Word.TheVariants as word_
-use Rattle.dialect_lexer.specs.declared.token.Symbol.{Symbol as SpecialSymbol}
 use Rattle.dialect_lexer.specs.declared.token.Symbol.TheVariants as mark
 use Rattle.pascal_tree.specs.declared.names.Identifier.{Identifier}
 use Rattle.pascal_tree.specs.declared.constants.CaseLabel.{CaseLabel}
 use Rattle.pascal_tree.specs.declared.types.TypeName.{TypeName}
 use Rattle.pascal_tree.specs.declared.types.Fields.{Fields}
 use Rattle.pascal_tree.specs.declared.types.Variant.{Variant}
-use Rattle.pascal_tree.specs.declared.types.Variants.{Variants}
 use Rattle.token_parsing.specs.Parser.{Outcome, Parser, and_then, begins, rest}
-use Rattle.token_parsing.proofs.Fair.{reads, fair_then, fair_either, fair_so}
+use Rattle.token_parsing.proofs.Fair.{reads, fair_then, fair_either}
 use Rattle.expr_parser.specs.Tokens.{Token, Placed, plain, Name}
 use Rattle.expr_parser.specs.Spans.{span_between}
 use Rattle.expr_parser.specs.Layout.{Layout, ◌&◌, token, word, symbol, spanned, with_commas, tokens_of, height_of, IsWritten}
 use Rattle.expr_parser.specs.Semicolons.{with_semicolons}
 use Rattle.expr_parser.specs.Writing.{identifier}
 use Rattle.expr_parser.specs.Grammar.{AreTokens, some_all, optional}
-use Rattle.expr_parser.specs.Classes.{identifiers, words, symbols, expect}
+use Rattle.expr_parser.specs.Classes.{words, symbols, expect}
 use Rattle.expr_parser.specs.Places.{made}
-use Rattle.expr_parser.specs.Constants.{begins_constant}
 use Rattle.expr_parser.specs.ConstantNodes.{write_case_label, formed_case_label}
 use Rattle.expr_parser.proofs.Layouts.{height_join, join_assoc, written_join}
 use Rattle.expr_parser.proofs.FollowedParts.{and_in}
-use Rattle.expr_parser.proofs.KnownTokens.{name_known, close_known, colon_known, of_known}
+use Rattle.expr_parser.proofs.KnownTokens.{close_known, colon_known, of_known}
 use Rattle.expr_parser.proofs.Openings.{Opening, within, in_spanned, behind, before, Hole}
 use Rattle.expr_parser.proofs.Spots.{Answer, Spot, Reads, Good, spot_behind, spot_within, begins_at}
 use Rattle.expr_parser.proofs.SoundTokens.{written_node, answer_symbol, answer_word, answer_mark}

@@ -1,5 +1,5 @@
 -- How each type and each list of formal parameters is written, by its parts as programs see them.
-use Rattle.std.proofs.Common.{◌≡◌, ℕ, Bool, true, List, map, Option, Some, None, sym, ap, ◌∙◌}
+use Rattle.std.proofs.Common.{◌≡◌, Bool, List, map, Option, Some, None, sym, ap, ◌∙◌}
 use Rattle.std.specs.Option.{option_map}
 use Rattle.p2c_text.specs.declared.place.Span.{Span}
 use Rattle.pascal_tree.specs.declared.names.Identifier.{Identifier}

@@ -1,12 +1,10 @@
-use crate::formals::formals;
-use crate::type_node;
-use dialect_lexer::{Token, tokens};
-use expr_parser::parsing::end_of;
-use expr_parser::source::{Source, next_place};
+use crate::{formals_at, type_at};
+use dialect_lexer::{TokenList, tokens};
+use expr_parser::SyntaxFault;
 use p2c_text::Dialect::{self, Hp, Iso, Turbo, Ucsd};
-use std::alloc::Global;
+use std::alloc::{AllocError, Global};
+use std::string::String;
 use std::test::Fail;
-use token_parsing::refusal::{ParseError, Refusal};
 
 /// What a text gives as a type, or as formal parameters.
 #[derive(Debug, Drop, PartialEq, Eq)]
@@ -26,56 +24,27 @@ enum Part {
     Formals,
 }
 
-fn place_of(source: &Source<'_>, tokens: &[Token], left: usize) -> u32 {
-    match tokens.get(tokens.len().saturating_sub(left)..) {
-        Some(rest) => next_place(source, rest).start,
-        None => 0,
+fn answer_at<A: Drop>(list: &TokenList, read: Result<(A, usize), SyntaxFault>) -> Answer {
+    match read {
+        Ok((_tree, end)) => Answer::Left(list.as_slice().len().saturating_sub(end)),
+        Err(SyntaxFault::Unexpected(span)) => Answer::Unexpected(span.start),
+        Err(SyntaxFault::TooDeep(span)) => Answer::TooDeep(span.start),
+        Err(SyntaxFault::Memory(_)) => Answer::NoMemory,
     }
 }
 
-fn read(
-    source: &Source<'_>,
-    tokens: &[Token],
-    part: Part,
-    depth: u32,
-) -> Result<usize, ParseError> {
-    match part {
-        Part::Type => {
-            let (_of, rest) = type_node(source, tokens, depth)?;
-            Ok(rest.len())
-        }
-        Part::Formals => {
-            let (_formals, rest) = formals(source, tokens, depth)?;
-            Ok(rest.len())
-        }
-    }
-}
-
-fn answer_to(alloc: Global, dialect: Dialect, text: &str, part: Part, depth: u32) -> Answer {
+fn answer_to(alloc: Global, dialect: Dialect, text: &str, part: Part, level: u32) -> Answer {
     let bytes = text.as_bytes();
-    if bytes.len() > 1_000_000 {
+    if bytes.len() > 1_000_000 || level == 0 || level > 401 {
         return Answer::NoTokens;
     }
     let list = match tokens(alloc, dialect, 0, bytes) {
         Ok(list) => list,
         Err(_) => return Answer::NoTokens,
     };
-    let source = Source {
-        alloc,
-        dialect,
-        bytes,
-        end: end_of(0, bytes),
-    };
-    let all = list.as_slice();
-    match read(&source, all, part, depth) {
-        Ok(left) => Answer::Left(left),
-        Err(ParseError::Memory(_)) => Answer::NoMemory,
-        Err(ParseError::At(Refusal::Unexpected(left))) => {
-            Answer::Unexpected(place_of(&source, all, left))
-        }
-        Err(ParseError::At(Refusal::TooDeep(left))) => Answer::TooDeep(place_of(
-            &source, all, left,
-        )),
+    match part {
+        Part::Type => answer_at(&list, type_at(alloc, dialect, bytes, &list, 0, level)),
+        Part::Formals => answer_at(&list, formals_at(alloc, dialect, bytes, &list, 0, level)),
     }
 }
 
@@ -118,7 +87,7 @@ fn simple_types_are_read(rt: HostRuntime) {
         (Hp, "^string", Answer::Unexpected(1)),
     ] {
         assert_eq!(rt;
-            answer_to(rt.alloc(), dialect, text, Part::Type, 400),
+            answer_to(rt.alloc(), dialect, text, Part::Type, 1),
             want,
             "at {text}"
         );
@@ -144,7 +113,7 @@ fn types_with_parts_are_read(rt: HostRuntime) {
         (Iso, "file", Answer::Unexpected(4)),
     ] {
         assert_eq!(rt;
-            answer_to(rt.alloc(), dialect, text, Part::Type, 400),
+            answer_to(rt.alloc(), dialect, text, Part::Type, 1),
             want,
             "at {text}"
         );
@@ -212,7 +181,7 @@ fn records_are_read(rt: HostRuntime) {
         (Iso, "record a: record b: c end end", Answer::Left(0)),
     ] {
         assert_eq!(rt;
-            answer_to(rt.alloc(), dialect, text, Part::Type, 400),
+            answer_to(rt.alloc(), dialect, text, Part::Type, 1),
             want,
             "at {text}"
         );
@@ -241,7 +210,7 @@ fn formal_parameters_are_read(rt: HostRuntime) {
         (Iso, "a", Answer::Unexpected(0)),
     ] {
         assert_eq!(rt;
-            answer_to(rt.alloc(), dialect, text, Part::Formals, 400),
+            answer_to(rt.alloc(), dialect, text, Part::Formals, 1),
             want,
             "at {text}"
         );
@@ -250,44 +219,132 @@ fn formal_parameters_are_read(rt: HostRuntime) {
 
 #[test]
 fn each_type_and_each_list_is_a_level(rt: HostRuntime) {
-    for (text, part, depth, want) in [
-        ("a", Part::Type, 0, Answer::TooDeep(0)),
-        ("a", Part::Type, 1, Answer::Left(0)),
-        ("set of a", Part::Type, 1, Answer::TooDeep(7)),
-        ("set of a", Part::Type, 2, Answer::Left(0)),
-        ("array [a] of b", Part::Type, 1, Answer::TooDeep(7)),
-        ("record end", Part::Type, 1, Answer::TooDeep(7)),
-        ("record end", Part::Type, 2, Answer::Left(0)),
-        ("record a: b end", Part::Type, 2, Answer::TooDeep(10)),
-        ("record a: b end", Part::Type, 3, Answer::Left(0)),
+    for (text, part, level, want) in [
+        ("a", Part::Type, 401, Answer::TooDeep(0)),
+        ("a", Part::Type, 400, Answer::Left(0)),
+        ("set of a", Part::Type, 400, Answer::TooDeep(7)),
+        ("set of a", Part::Type, 399, Answer::Left(0)),
+        ("array [a] of b", Part::Type, 400, Answer::TooDeep(7)),
+        ("record end", Part::Type, 400, Answer::TooDeep(7)),
+        ("record end", Part::Type, 399, Answer::Left(0)),
+        ("record a: b end", Part::Type, 399, Answer::TooDeep(10)),
+        ("record a: b end", Part::Type, 398, Answer::Left(0)),
         (
             "record case a of 1: () end",
             Part::Type,
-            2,
+            399,
             Answer::TooDeep(21),
         ),
-        ("record case a of 1: () end", Part::Type, 3, Answer::Left(0)),
+        (
+            "record case a of 1: () end",
+            Part::Type,
+            398,
+            Answer::Left(0),
+        ),
         (
             "record case a of 1: (case b of 2: (c: d)) end",
             Part::Type,
-            4,
+            397,
             Answer::TooDeep(38),
         ),
         (
             "record case a of 1: (case b of 2: (c: d)) end",
             Part::Type,
-            5,
+            396,
             Answer::Left(0),
         ),
-        ("(a: b)", Part::Formals, 0, Answer::TooDeep(0)),
-        ("(a: b)", Part::Formals, 1, Answer::Left(0)),
-        ("(procedure p(a: b))", Part::Formals, 1, Answer::TooDeep(12)),
-        ("(procedure p(a: b))", Part::Formals, 2, Answer::Left(0)),
+        ("(a: b)", Part::Formals, 401, Answer::TooDeep(0)),
+        ("(a: b)", Part::Formals, 400, Answer::Left(0)),
+        (
+            "(procedure p(a: b))",
+            Part::Formals,
+            400,
+            Answer::TooDeep(12),
+        ),
+        ("(procedure p(a: b))", Part::Formals, 399, Answer::Left(0)),
     ] {
         assert_eq!(rt;
-            answer_to(rt.alloc(), Iso, text, part, depth),
+            answer_to(rt.alloc(), Iso, text, part, level),
             want,
             "at {text}"
+        );
+    }
+}
+
+/// A part, so many times, around another.
+fn nested(
+    alloc: Global,
+    before: &str,
+    inside: &str,
+    after: &str,
+    count: u32,
+) -> Result<String, AllocError> {
+    let mut text = String::new(alloc);
+    for _turn in 0..count {
+        text.push_str(before)?;
+    }
+    text.push_str(inside)?;
+    for _turn in 0..count {
+        text.push_str(after)?;
+    }
+    Ok(text)
+}
+
+fn nested_answer(
+    alloc: Global,
+    (before, inside, after): (&str, &str, &str),
+    count: u32,
+    part: Part,
+) -> Answer {
+    match nested(alloc, before, inside, after, count) {
+        Ok(text) => answer_to(alloc, Turbo, text.as_str(), part, 1),
+        Err(_) => Answer::NoMemory,
+    }
+}
+
+#[test]
+fn levels_end_at_four_hundred(rt: HostRuntime) {
+    for (before, inside, after, count, part, want) in [
+        ("set of ", "a", "", 399, Part::Type, Answer::Left(0)),
+        ("set of ", "a", "", 400, Part::Type, Answer::TooDeep(2800)),
+        ("record a: ", "b", " end", 199, Part::Type, Answer::Left(0)),
+        (
+            "record a: ",
+            "b",
+            " end",
+            200,
+            Part::Type,
+            Answer::TooDeep(2000),
+        ),
+        (
+            "record a: ",
+            "record end",
+            " end",
+            199,
+            Part::Type,
+            Answer::Left(0),
+        ),
+        (
+            "(procedure p",
+            "(a: b)",
+            ")",
+            399,
+            Part::Formals,
+            Answer::Left(0),
+        ),
+        (
+            "(procedure p",
+            "(a: b)",
+            ")",
+            400,
+            Part::Formals,
+            Answer::TooDeep(4800),
+        ),
+    ] {
+        assert_eq!(rt;
+            nested_answer(rt.alloc(), (before, inside, after), count, part),
+            want,
+            "at {before} {count}"
         );
     }
 }

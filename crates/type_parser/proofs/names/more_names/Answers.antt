@@ -1,4 +1,4 @@
-use Rattle.std.proofs.Common.{◌≡◌, arith, rules, ap}
+use Rattle.std.proofs.Common.{arith, rules, ap}
 use Rattle.std.proofs.lemmas.Grind.{common_steps}
 use Rattle.dialect_lexer.specs.declared.token.Symbol.TheVariants.{Comma}
 use Rattle.token_parsing.specs.Parser.{again, repeat, begins}
