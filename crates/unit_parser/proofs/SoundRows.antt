@@ -84,11 +84,16 @@ module _ (d : Dialect) {C : Type 0} (layout : C → Layout) (form : C → Bool) 
     first_sound o s spot hole deep =
         let hole1 : HoleT write formed o = record { at = λ x ok. filled_as layout form (ap o.plug (join_done (write x))) (hole.at (x, []) (and_in (formed x) true ok refl)) } in
         fair_then (good o s spot hole1 deep) (λ x r h. let a = h.fits in
-        reads (x ∷ []) r (record { first = x; others = []; is = refl; reads = record {
-          written = subst (λ l. IsWritten end l s r) (sym (join_done (write x))) h.written;
-          formed = and_in (formed x) true h.formed refl;
-          fits = subst (λ l. height_of l ≤ k) (sym (join_done (write x))) a;
-        } }))
+        reads (x ∷ []) r (record {
+          first = x;
+          others = [];
+          is = refl;
+          reads = record {
+            written = subst (λ l. IsWritten end l s r) (sym (join_done (write x))) h.written;
+            formed = and_in (formed x) true h.formed refl;
+            fits = subst (λ l. height_of l ≤ k) (sym (join_done (write x))) a;
+          };
+        }))
 
     pub more_sound : (test : List Placed → Bool) (o : Opening) (s : List Placed) → SpotT o s → HoleT write_row formed_row o → o.depth + k ≡ levels → (found : List A) (r : List Placed) → ReadsSome s found r → AnswerT (ReadsSome s) (repeat test next found r)
     more_sound test o s spot hole deep found r h = fair_repeat test next step found r h
@@ -99,11 +104,16 @@ module _ (d : Dialect) {C : Type 0} (layout : C → Layout) (form : C → Bool) 
         step_of : (y : A) (xs : List A) (r : List Placed) → ReadsT write_row formed_row k s (y, xs) r → AnswerT (ReadsSome s) (next (y ∷ xs) r)
         step_of y xs r h =
             fair_then (good (within o (behind (write_row (y, xs)))) r (moved (write_row (y, xs)) spot h.written) (inner y xs h.formed) (omega (arith, deep))) (λ x r2 g. let a = h.fits in let b = g.fits in
-            reads (y ∷ xs ++ x ∷ []) r2 (record { first = y; others = xs ++ x ∷ []; is = refl; reads = record {
-              written = subst (λ l. IsWritten end l s r2) (sym (row_push write (y ∷ xs) x)) (written_join end (write_row (y, xs)) (write x) s r r2 h.written g.written);
-              formed = all_push formed (y ∷ xs) x h.formed g.formed;
-              fits = subst (λ l. height_of l ≤ k) (sym (row_push write (y ∷ xs) x)) (omega (arith, height_join (write_row (y, xs)) (write x), a, b));
-            } }))
+            reads (y ∷ xs ++ x ∷ []) r2 (record {
+              first = y;
+              others = xs ++ x ∷ [];
+              is = refl;
+              reads = record {
+                written = subst (λ l. IsWritten end l s r2) (sym (row_push write (y ∷ xs) x)) (written_join end (write_row (y, xs)) (write x) s r r2 h.written g.written);
+                formed = all_push formed (y ∷ xs) x h.formed g.formed;
+                fits = subst (λ l. height_of l ≤ k) (sym (row_push write (y ∷ xs) x)) (omega (arith, height_join (write_row (y, xs)) (write x), a, b));
+              };
+            }))
 
         step : (found : List A) (r : List Placed) → ReadsSome s found r → test r ≡ true → AnswerT (ReadsSome s) (next found r)
         step found r h e = subst (λ z. AnswerT (ReadsSome s) (next z r)) (sym h.is) (step_of h.first h.others r h.reads)
