@@ -1,0 +1,6 @@
+use Rattle.unit_parser.proofs.Answered.{given_is_parsed}
+use Rattle.unit_parser.proofs.parsing.parse.Goals as goal
+
+pub returns : goal.returns
+returns c =
+    given_is_parsed c.args.dialect c.args.bytes.now c.args.tokens.now c.read.result c.end_of.result c.file.result c.as_slice.result.now c.end_of.ensures c.file.ensures c.as_slice.ensures c.requires.lexed c.read.ensures

@@ -1,0 +1,11 @@
+use Rattle.std.proofs.Common.{◌≡◌, ◌-◌}
+use Rattle.token_parsing.specs.Parser.{again, begins}
+use Rattle.expr_parser.specs.Tokens.{seen}
+use Rattle.expr_parser.specs.Classes.{identifiers}
+use Rattle.expr_parser.specs.Expressions.{expr}
+use Rattle.unit_parser.specs.Parts.{const_definitions, next_const_definition}
+use Rattle.unit_parser.proofs.parts.const_definitions.Given as goal
+
+-- what is still to read gives what the whole gives
+abbrev pub invariant-loop-turn : goal.invariant-loop-turn
+invariant-loop-turn l = const_definitions l.source.dialect l.source.end (expr l.source.dialect l.source.end l.depth) l.fn.first (seen l.source.bytes.now l.fn.tokens) ≡ again (begins identifiers) (next_const_definition l.source.dialect l.source.end (expr l.source.dialect l.source.end l.depth)) (l._turn-end - l._turn) l.all (seen l.source.bytes.now l.rest)

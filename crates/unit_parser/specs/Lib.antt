@@ -1,0 +1,9 @@
+pub mod Dialects
+pub mod Writing
+pub mod Grammar
+pub mod Text
+pub mod Parts
+pub mod Blocks
+pub mod Files
+pub mod Parsed
+pub mod Laws
