@@ -5,8 +5,9 @@ use Rattle.p2c_text.specs.declared.place.Span.{Span}
 use Rattle.pascal_tree.specs.declared.expressions.Expr.{Expr}
 use Rattle.token_parsing.specs.declared.refusal.Refusal.TheVariants.{Unexpected, TooDeep}
 use Rattle.expr_parser.specs.Tokens.{Placed, plain}
-use Rattle.expr_parser.specs.Grammar.{AreTokens}
-use Rattle.expr_parser.specs.Text.{Derives, MayBegin, IsLongestRun, NoExpr, NoFitting}
+use Rattle.expr_parser.specs.Writing.{write_expr}
+use Rattle.expr_parser.specs.Grammar.{AreTokens, formed_expr}
+use Rattle.expr_parser.specs.Text.{AreUnique, ReadsLongest, Derives, MayBegin, IsLongestRun, NoExpr, NoFitting}
 use Rattle.expr_parser.specs.Expressions.{expr}
 
 -- What is read is the longest run with which an expression begins, and its tree.
@@ -27,8 +28,8 @@ TooDeepIsDeep = (d : Dialect) (end : Span) (outer levels left : ℕ) (from : Lis
 
 -- An expression's tokens have one tree.
 abbrev pub TreeIsUnique : Type 0
-TreeIsUnique = (d : Dialect) (end : Span) (m n : ℕ) (a b : Expr) (from rest : List Placed) → Derives d end m a from rest → Derives d end n b from rest → a ≡ b
+TreeIsUnique = AreUnique (λ d. write_expr) formed_expr
 
 -- Where the longest run has a tree within the levels, that tree is read.
 abbrev pub LongestIsRead : Type 0
-LongestIsRead = (d : Dialect) (end : Span) (levels : ℕ) (from run rest : List Placed) (e : Expr) → AreTokens d (plain from) → IsLongestRun d from run rest → Derives d end levels e from rest → expr d end levels from ≡ Ok (e, rest)
+LongestIsRead = ReadsLongest (λ d. write_expr) formed_expr expr

@@ -1,13 +1,14 @@
 -- Which tokens a tree of the grammar has, with which tokens one begins, and where a node of some level may begin. A kind of trees is given by their layouts, and by which of them are formed as the grammar asks.
-use Rattle.std.specs.Prelude.{◌≡◌, ℕ, Bool, ◌≤◌, List, [], ◌∷◌, ◌++◌, length}
+use Rattle.std.specs.Prelude.{◌≡◌, ℕ, Bool, ◌≤◌, List, [], ◌∷◌, ◌++◌, length, Ok}
 use Rattle.std.specs.List.{Contains}
 use Rattle.p2c_text.specs.declared.dialect.Dialect.{Dialect}
 use Rattle.p2c_text.specs.declared.place.Span.{Span}
 use Rattle.pascal_tree.specs.declared.expressions.Expr.{Expr}
+use Rattle.token_parsing.specs.Parser.{Parser}
 use Rattle.expr_parser.specs.Tokens.{Token, Placed, plain}
 use Rattle.expr_parser.specs.Layout.{Layout, tokens_of, height_of, levels_of, IsWritten}
 use Rattle.expr_parser.specs.Writing.{write_expr}
-use Rattle.expr_parser.specs.Grammar.{IsTree, formed_expr}
+use Rattle.expr_parser.specs.Grammar.{AreTokens, IsTree, formed_expr}
 
 -- ---- for each kind of trees
 
@@ -40,6 +41,15 @@ NoTree {C} d layout form run = (c : C) → IsTree d layout form c → tokens_of 
 abbrev pub NoneFits : {C : Type 0} → Dialect → (C → Layout) → (C → Bool) → (levels : ℕ) → List Placed → Type 0
 NoneFits {C} d layout form levels from =
     (run rest : List Placed) → IsLongest d layout form from run rest → (c : C) → IsTree d layout form c → tokens_of (layout c) ≡ plain run → height_of (layout c) ≤ levels → ⊥
+
+-- no two trees are written so by the same tokens
+abbrev pub AreUnique : {C : Type 0} → (Dialect → C → Layout) → (Dialect → C → Bool) → Type 0
+AreUnique {C} layout form = (d : Dialect) (end : Span) (m n : ℕ) (a b : C) (from rest : List Placed) → IsDerived d (layout d) (form d) end m a from rest → IsDerived d (layout d) (form d) end n b from rest → a ≡ b
+
+-- where the longest run has a tree within the levels, the parser gives that tree
+abbrev pub ReadsLongest : {C : Type 0} → (Dialect → C → Layout) → (Dialect → C → Bool) → (Dialect → Span → ℕ → Parser Placed C) → Type 0
+ReadsLongest {C} layout form p =
+    (d : Dialect) (end : Span) (levels : ℕ) (from run rest : List Placed) (c : C) → AreTokens d (plain from) → IsLongest d (layout d) (form d) from run rest → IsDerived d (layout d) (form d) end levels c from rest → p d end levels from ≡ Ok (c, rest)
 
 -- ---- for expressions
 

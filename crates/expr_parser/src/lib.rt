@@ -7,7 +7,9 @@
 //!
 //! `specs/Text.antt` says, for any kind of trees, which tokens are the longest run and where a node of
 //! some level may begin. `proofs/Sound*` shows what is read and that a tree begins with the tokens
-//! before a refused one; `proofs/Followed*` that the tokens of each tree are followed to their end.
+//! before a refused one; `proofs/Followed*` that the tokens of each tree are followed to their end;
+//! `proofs/Exact*` that each tree that is written is the one that is read. `proofs/Unique` has from that,
+//! for any kind of trees, that no two are written by the same tokens.
 #![tactic(auto)]
 
 pub mod constants;

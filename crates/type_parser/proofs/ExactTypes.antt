@@ -190,8 +190,8 @@ module _ (d : Dialect) (end : Span) (k : ℕ) (child : Parser Placed TypeNode) (
         m',
         right,
         exact_token _ (symbols mark.OpenBracket) (says_symbol mark.OpenBracket) end list s m (first, more, is, same, left) (λ n h.
-        exact_then _ (types_exact ts part n m h (ends_plain TypeEnds end close m r closing (marks_end _).1) (ap (on_first (on_symbol mark.Comma)) (written_plain end close m r closing)))
-        (exact_token _ (symbols mark.CloseBracket) (says_symbol mark.CloseBracket) end Done m m' (last, m', is', same', refl) (λ n h. ap (λ z. Ok (ts, z)) h))),
+            exact_then _ (types_exact ts part n m h (ends_plain TypeEnds end close m r closing (marks_end _).1) (ap (on_first (on_symbol mark.Comma)) (written_plain end close m r closing)))
+            (exact_token _ (symbols mark.CloseBracket) (says_symbol mark.CloseBracket) end Done m m' (last, m', is', same', refl) (λ n h. ap (λ z. Ok (ts, z)) h))),
       )
 
   array_read : (ts : List TypeNode) (t : TypeNode) (span : Span) → StructRead (struct_.Array ts t span)

@@ -19,3 +19,7 @@ pub mod Clauses
 pub mod Examples
 pub mod ExactNames
 pub mod ExactTypes
+pub mod ExactVariants
+pub mod ExactFields
+pub mod ExactFormals
+pub mod ExactLaws

@@ -6,3 +6,4 @@ pub mod Fields
 pub mod Formals
 pub mod Levels
 pub mod Parsed
+pub mod Laws

@@ -7,11 +7,13 @@
 //! `specs/Grammar.antt`.
 //!
 //! `proofs/Sound*` shows what is read and that a tree begins with the tokens before a refused one;
-//! `proofs/Followed*` that the tokens of each tree are followed to their end.
+//! `proofs/Followed*` that the tokens of each tree are followed to their end; `proofs/Exact*` that each
+//! tree that is written is the one that is read, and so the only one of its tokens.
 #![tactic(auto)]
 
 mod fields;
 pub mod formals;
+pub mod laws;
 pub mod names;
 pub mod parsing;
 mod simple;
