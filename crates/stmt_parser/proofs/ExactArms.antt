@@ -1,7 +1,6 @@
 -- The arms of a `case` that are written are read.
-use Rattle.std.proofs.Common.{◌≡◌, ℕ, zero, suc, ◌<◌, ◌≤◌, Bool, true, false, ◌&&◌, List, [], ◌∷◌, ◌++◌, length, map, Some, None, Ok, refl, sym, ap, subst, ◌∙◌, append_assoc, arith, true≢false}
+use Rattle.std.proofs.Common.{◌≡◌, ℕ, zero, suc, ◌≤◌, Bool, true, false, ◌&&◌, List, [], ◌∷◌, ◌++◌, length, map, Some, None, Ok, refl, sym, ap, ◌∙◌, append_assoc, arith, true≢false}
 use Rattle.std.specs.Prelude.{IsTrue}
-use Rattle.std.proofs.lemmas.List.{append-nil}
 use Rattle.p2c_text.specs.declared.dialect.Dialect.{Dialect}
 use Rattle.p2c_text.specs.declared.place.Span.{Span}
 use Rattle.dialect_lexer.specs.declared.token.Symbol.TheVariants as mark
@@ -11,9 +10,9 @@ use Rattle.pascal_tree.specs.declared.constants.Constant.TheVariants as a_consta
 use Rattle.pascal_tree.specs.declared.constants.CaseLabel.{CaseLabel}
 use Rattle.pascal_tree.specs.declared.statements.Arm.{Arm, out-Arm}
 use Rattle.pascal_tree.specs.declared.statements.Stmt.{Stmt}
-use Rattle.token_parsing.specs.Parser.{Parser, Outcome, begins, again, repeat, rest}
+use Rattle.token_parsing.specs.Parser.{Parser, Outcome, again, repeat, rest}
 use Rattle.expr_parser.specs.Tokens.{Token, Placed, Symbol, plain}
-use Rattle.expr_parser.specs.Layout.{Layout, Done, ◌&◌, symbol, with_commas, after_commas, IsWritten}
+use Rattle.expr_parser.specs.Layout.{Done, ◌&◌, symbol, with_commas, after_commas, IsWritten}
 use Rattle.expr_parser.specs.Grammar.{some_all}
 use Rattle.expr_parser.specs.Classes.{symbols, same_symbol}
 use Rattle.expr_parser.specs.Constants.{begins_constant}

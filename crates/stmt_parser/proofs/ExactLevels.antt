@@ -1,5 +1,5 @@
 -- A statement that is written is read, within the levels that it needs.
-use Rattle.std.proofs.Common.{◌≡◌, ℕ, zero, suc, ◌≤◌, Bool, true, false, ◌&&◌, ◌||◌, List, [], ◌∷◌, map, Option, Some, None, Ok, refl, sym, ap, subst, ◌∙◌, arith}
+use Rattle.std.proofs.Common.{◌≡◌, ℕ, zero, suc, ◌≤◌, Bool, true, false, ◌&&◌, ◌||◌, List, ◌∷◌, map, Option, Some, None, Ok, refl, sym, ap, subst, ◌∙◌, arith}
 use Rattle.std.specs.Prelude.{IsTrue}
 use Rattle.p2c_text.specs.declared.dialect.Dialect.{Dialect}
 use Rattle.p2c_text.specs.declared.place.Span.{Span}
@@ -10,13 +10,13 @@ use Rattle.pascal_tree.specs.declared.expressions.Expr.{Expr}
 use Rattle.pascal_tree.specs.declared.statements.Plain.{Plain}
 use Rattle.pascal_tree.specs.declared.statements.Stmt.{Stmt, out-Stmt}
 use Rattle.token_parsing.specs.Parser.{Parser, begins, rest}
-use Rattle.expr_parser.specs.Tokens.{Token, Placed, Name, Symbol, plain}
+use Rattle.expr_parser.specs.Tokens.{Token, Placed, Symbol, plain}
 use Rattle.expr_parser.specs.Layout.{Done, ◌&◌, symbol, spanned, IsWritten, height_of}
-use Rattle.expr_parser.specs.Classes.{numbers, identifiers, symbols}
+use Rattle.expr_parser.specs.Classes.{symbols}
 use Rattle.expr_parser.specs.Dialects.{has_named_labels}
 use Rattle.expr_parser.specs.Expressions.{expr}
 use Rattle.expr_parser.specs.ConstantNodes.{write_label, formed_label}
-use Rattle.expr_parser.specs.Constants.{begins_named_label, begins_label, label, optional_label}
+use Rattle.expr_parser.specs.Constants.{begins_named_label, begins_label, optional_label}
 use Rattle.expr_parser.specs.Semicolons.{with_semicolons}
 use Rattle.expr_parser.proofs.Layouts.{spell, spell_join}
 use Rattle.expr_parser.proofs.Followed.{on_first}
@@ -27,9 +27,9 @@ use Rattle.expr_parser.proofs.ExactTerms.{ExprExact}
 use Rattle.expr_parser.proofs.ExactFactors.{expr_exact}
 use Rattle.expr_parser.proofs.ExactConstants.{label_exact}
 use Rattle.stmt_parser.specs.Writing.{optional_label as write_label_part, write_plain, write_stmt}
-use Rattle.stmt_parser.specs.Grammar.{some_alone, formed_optional_label, formed_plain, formed_stmt}
+use Rattle.stmt_parser.specs.Grammar.{some_alone, formed_optional_label, formed_stmt}
 use Rattle.stmt_parser.specs.Statements.{stmts, stmt_of}
-use Rattle.stmt_parser.specs.Levels.{plain_by, stmt_by, stmt}
+use Rattle.stmt_parser.specs.Levels.{stmt_by, stmt}
 use Rattle.stmt_parser.proofs.StatementViews.{stmt_is, plain_cases}
 use Rattle.stmt_parser.proofs.Ends.{StmtEnds}
 use Rattle.stmt_parser.proofs.FollowedLabels.{NoLabel, nothing, no_name, alone, name}

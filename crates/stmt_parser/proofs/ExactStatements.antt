@@ -24,7 +24,7 @@ use Rattle.expr_parser.specs.Classes.{words, same_word}
 use Rattle.expr_parser.specs.Places.{made}
 use Rattle.expr_parser.specs.ConstantNodes.{write_label}
 use Rattle.expr_parser.specs.Semicolons.{with_semicolons}
-use Rattle.expr_parser.proofs.Spelled.{place_written, place_spelled}
+use Rattle.expr_parser.proofs.Spelled.{place_written}
 use Rattle.expr_parser.proofs.Followed.{on_first}
 use Rattle.expr_parser.proofs.FollowedParts.{Part, part_as, part_first, part_second, part_left, part_right, part_inside}
 use Rattle.expr_parser.proofs.Lookahead.{looks_name, looks_word, on_selector, on_symbol, says_word}

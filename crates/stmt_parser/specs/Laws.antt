@@ -6,6 +6,9 @@ use Rattle.pascal_tree.specs.declared.statements.Stmt.{Stmt}
 use Rattle.token_parsing.specs.declared.refusal.Refusal.TheVariants.{Unexpected, TooDeep}
 use Rattle.expr_parser.specs.Tokens.{Placed, plain}
 use Rattle.expr_parser.specs.Grammar.{AreTokens}
+use Rattle.expr_parser.specs.Text.{AreUnique, ReadsLongest}
+use Rattle.stmt_parser.specs.Writing.{write_stmt}
+use Rattle.stmt_parser.specs.Grammar.{stands_alone}
 use Rattle.stmt_parser.specs.Text.{Derives, MayBegin, IsLongestRun, NoStmt, NoFitting}
 use Rattle.stmt_parser.specs.Levels.{stmt}
 
@@ -27,8 +30,8 @@ TooDeepIsDeep = (d : Dialect) (end : Span) (outer levels left : ℕ) (from : Lis
 
 -- A statement's tokens have one tree.
 abbrev pub TreeIsUnique : Type 0
-TreeIsUnique = (d : Dialect) (end : Span) (m n : ℕ) (a b : Stmt) (from rest : List Placed) → Derives d end m a from rest → Derives d end n b from rest → a ≡ b
+TreeIsUnique = AreUnique write_stmt stands_alone
 
 -- Where the longest run has a tree within the levels, that tree is read.
 abbrev pub LongestIsRead : Type 0
-LongestIsRead = (d : Dialect) (end : Span) (levels : ℕ) (from run rest : List Placed) (s : Stmt) → AreTokens d (plain from) → IsLongestRun d from run rest → Derives d end levels s from rest → stmt d end levels from ≡ Ok (s, rest)
+LongestIsRead = ReadsLongest write_stmt stands_alone stmt
