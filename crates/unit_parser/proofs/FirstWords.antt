@@ -1,5 +1,6 @@
 -- With which words the parts of a whole text begin.
-use Rattle.std.proofs.Common.{◌≡◌, ℕ, suc, ◌≤◌, Bool, true, false, List, [], ◌∷◌, map, Some, None, refl, sym, ap, subst, ◌∙◌, arith}
+use Rattle.std.proofs.Common.{◌≡◌, ℕ, suc, ◌≤◌, Bool, true, false, List, [], ◌∷◌, map, Option, Some, None, refl, sym, ap, subst, ◌∙◌, arith}
+use Rattle.std.specs.Option.{option_map}
 use Rattle.p2c_text.specs.declared.dialect.Dialect.{Dialect}
 use Rattle.p2c_text.specs.declared.dialect.Dialect.TheVariants as dialect
 use Rattle.dialect_lexer.specs.declared.token.Word.{Word as WordSymbol}
@@ -7,17 +8,20 @@ use Rattle.dialect_lexer.specs.declared.token.Word.TheVariants as word_
 use Rattle.dialect_lexer.specs.declared.token.Symbol.TheVariants as mark
 use Rattle.pascal_tree.specs.declared.declarations.Declaration.{Declaration}
 use Rattle.pascal_tree.specs.declared.declarations.Block.{Block, out-Block}
+use Rattle.pascal_tree.specs.declared.files.Head.{Head}
+use Rattle.pascal_tree.specs.declared.files.Uses.{Uses}
 use Rattle.pascal_tree.specs.declared.files.Public.{Public}
 use Rattle.pascal_tree.specs.declared.files.Public.TheVariants as item
 use Rattle.token_parsing.specs.Parser.{is_some, begins}
 use Rattle.expr_parser.specs.Tokens.{Token, Word}
 use Rattle.expr_parser.specs.Layout.{◌&◌, symbol, word, in_row}
+use Rattle.expr_parser.specs.Semicolons.{optional_part}
 use Rattle.expr_parser.specs.Classes.{operator_of, same_word}
 use Rattle.expr_parser.proofs.Layouts.{spell, spell_join}
 use Rattle.expr_parser.proofs.Followed.{Looks}
 use Rattle.expr_parser.proofs.Lookahead.{on_name, on_word}
 use Rattle.unit_parser.specs.Dialects.{uses_word}
-use Rattle.unit_parser.specs.Writing.{write_heading, write_declaration, write_block, write_stmts, write_public}
+use Rattle.unit_parser.specs.Writing.{write_heading, write_declaration, write_block, write_stmts, write_head, optional_uses, write_public}
 use Rattle.unit_parser.specs.Files.{public_word_of, public_words}
 use Rattle.unit_parser.proofs.Beginnings.{Opens, opens_labels, opens_constants, opens_types, opens_variables, opens_procedure, opens_function, opens_name, Closed, at_begin, at_end, Start, heading_start, declaration_start}
 use Rattle.unit_parser.proofs.FollowedDeclarations.{block_written}
@@ -159,3 +163,24 @@ publics_begin [] rest h = h
 publics_begin (x ∷ xs) rest h =
     let start = public_start x (spell (in_row (map write_public xs)) rest) in
     record { token = start.token; more = start.more; is = spell_join (write_public x) (in_row (map write_public xs)) rest ∙ start.is; inside = declares start.opens }
+
+-- ---- programs
+
+-- what a program begins with behind its head is no head of a text
+pub record Headless (w : List Token) : Type 0 where
+  pub token : Token
+  pub more : List Token
+  pub is : w ≡ token ∷ more
+  pub no_program : on_word word_.KwProgram token ≡ false
+  pub no_unit : on_word word_.KwUnit token ≡ false
+  pub no_module : on_word word_.KwModule token ≡ false
+
+pub headless : (d : Dialect) (u : Option Uses) (rest : List Token) → Begins rest → Headless (spell (optional_uses d u) rest)
+headless d None rest b = record { token = b.token; more = b.more; is = b.is; no_program = inside_other heads_program b.inside; no_unit = inside_other heads_unit b.inside; no_module = inside_other heads_module b.inside }
+headless d (Some u) rest b = record { token = Word (uses_word d); more = _; is = refl; no_program = (uses_other d).0; no_unit = (uses_other d).1; no_module = (uses_other d).2 }
+
+-- a program begins with no head of a unit or module
+pub program_first : (d : Dialect) (x : Option Head) (u : Option Uses) (rest : List Token) → Begins rest → (y : Token) × (w : List Token) × (spell (optional_part (option_map write_head x)) (spell (optional_uses d u) rest) ≡ y ∷ w) × (on_word word_.KwUnit y ≡ false) × (on_word word_.KwModule y ≡ false)
+unfolding same_word
+program_first d (Some x) u rest b = (Word word_.KwProgram, _, refl, refl, refl)
+program_first d None u rest b = let first = headless d u rest b in (first.token, first.more, first.is, first.no_unit, first.no_module)

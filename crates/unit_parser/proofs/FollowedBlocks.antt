@@ -148,7 +148,7 @@ module _ (n : Until) (W : Type 0) (d : Dialect) (end : Span) (k : ℕ) (inner : 
       follow_then (body_followed (out-Block x).body q rest r h) (λ b. then_shrinks (one_shrinks _) (λ u. λ m r k. pure_shrinks _ m r k)) (λ b r h.
       follow_token (words word_.KwEnd) (accepts_word word_.KwEnd) h (λ u. λ m r k. pure_shrinks _ m r k) (λ _ r h. follow_pure _ h))))
 
-block_deep : (d : Dialect) (x : Block) → 1 ≤ height_of (write_block d x)
+pub block_deep : (d : Dialect) (x : Block) → 1 ≤ height_of (write_block d x)
 block_deep d x = subst (λ l. 1 ≤ height_of l) (sym (block_written d x)) (omega arith)
 
 pub block_followed : (n : Until) (W : Type 0) (d : Dialect) (end : Span) (k : ℕ) → BlockFollowed n W d k (block d end k)

@@ -190,7 +190,7 @@ block_written d x = ap (λ y. write_block d y) (block_is x) ∙ write_block_of d
 pub block_formed : (d : Dialect) (x : Block) → formed_block d x ≡ (formed_declarations d (map (judged_declaration d) (out-Block x).declarations) && formed_stmts d (out-Block x).body)
 block_formed d x = ap (λ y. formed_block d y) (block_is x) ∙ formed_block_of d (out-Block x).declarations (out-Block x).body (out-Block x).span
 
-routine_formed : (d : Dialect) (x : Routine) → formed_routine d x ≡ (formed_heading (out-Routine x).heading && formed_body d (out-Routine x).body)
+pub routine_formed : (d : Dialect) (x : Routine) → formed_routine d x ≡ (formed_heading (out-Routine x).heading && formed_body d (out-Routine x).body)
 routine_formed d x = ap (λ y. formed_routine d y) (routine_is x) ∙ formed_routine_of d (out-Routine x).heading (out-Routine x).body (out-Routine x).span
 
 -- a block begins with no name
@@ -201,7 +201,7 @@ no_name_first d (y ∷ ys) tail rest =
     let start = declaration_start d y (spell others (spell more rest)) in
     (start.token, start.more, spell_join (write_declaration d y & others) more rest ∙ spell_join (write_declaration d y) others (spell more rest) ∙ start.is, opens_name start.opens)
 
-block_first : (d : Dialect) (x : Block) (rest : List Token) → (y : Token) × (w : List Token) × (spell (write_block d x) rest ≡ y ∷ w) × (on_name y ≡ false)
+pub block_first : (d : Dialect) (x : Block) (rest : List Token) → (y : Token) × (w : List Token) × (spell (write_block d x) rest ≡ y ∷ w) × (on_name y ≡ false)
 block_first d x rest =
     let (y, w, is, other) = no_name_first d (out-Block x).declarations (write_stmts d (out-Block x).body & word word_.KwEnd) rest in
     (y, w, ap (λ l. spell l rest) (block_written d x) ∙ is, other)

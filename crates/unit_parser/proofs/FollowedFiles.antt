@@ -55,13 +55,13 @@ use Rattle.unit_parser.proofs.FollowedHeadings.{heading_followed}
 use Rattle.unit_parser.proofs.Beginnings.{on_routine, opens_name, Closed, at_begin, at_end, place_of_constants, place_of_types, place_of_variables, other_word, heading_start}
 use Rattle.unit_parser.proofs.FollowedDeclarations.{chosen, heading_takes, heading_begun, const_part_begun, const_part_takes, type_part_begun, type_part_takes, var_part_begun, var_part_takes}
 use Rattle.unit_parser.proofs.FollowedBlocks.{declarations_followed, body_followed, block_followed}
-use Rattle.unit_parser.proofs.FirstWords.{Heads, heads_program, heads_unit, heads_module, Inside, at_export, at_implement, at_implementation, inside_other, heads_uses_word, uses_other, Begins, closed_begins, declarations_begin, block_begins, on_public, looks_public, public_start, opens_public, publics_begin}
+use Rattle.unit_parser.proofs.FirstWords.{at_export, at_implement, at_implementation, inside_other, heads_uses_word, Begins, closed_begins, declarations_begin, block_begins, on_public, looks_public, public_start, opens_public, publics_begin, Headless, headless, program_first}
 
-and_true : (b : Bool) → IsTrue b → (b && true) ≡ true
+pub and_true : (b : Bool) → IsTrue b → (b && true) ≡ true
 and_true true h = refl
 and_true false h = h
 
-and_false : (b : Bool) → (b && false) ≡ false
+pub and_false : (b : Bool) → (b && false) ≡ false
 and_false true = refl
 and_false false = refl
 
@@ -137,19 +137,6 @@ module _ (n : Until) (W : Type 0) (d : Dialect) (end : Span) where
 
   -- ---- programs
 
-  -- what a program begins with behind its head is no head of a text
-  record Headless (w : List Token) : Type 0 where
-    token : Token
-    more : List Token
-    is : w ≡ token ∷ more
-    no_program : on_word word_.KwProgram token ≡ false
-    no_unit : on_word word_.KwUnit token ≡ false
-    no_module : on_word word_.KwModule token ≡ false
-
-  headless : (u : Option Uses) (rest : List Token) → Begins rest → Headless (spell (write_optional_uses d u) rest)
-  headless None rest b = record { token = b.token; more = b.more; is = b.is; no_program = inside_other heads_program b.inside; no_unit = inside_other heads_unit b.inside; no_module = inside_other heads_module b.inside }
-  headless (Some u) rest b = record { token = Word (uses_word d); more = _; is = refl; no_program = (uses_other d).0; no_unit = (uses_other d).1; no_module = (uses_other d).2 }
-
   module _ (k : ℕ) where
     program_followed : (p : Program) → Part W k (write_program d p) (formed_program d p) → (rest : List Token) (s : List Placed) → Along n (spell (write_program d p) rest) s → Followed n W rest (program d end k s)
     unfolding program
@@ -161,7 +148,7 @@ module _ (n : Until) (W : Type 0) (d : Dialect) (end : Span) where
         let fits = q.fits in
         let block_rest = spell body (Symbol mark.Dot ∷ rest) in
         let b = block_begins d p.block (Symbol mark.Dot ∷ rest) in
-        let first = headless p.uses block_rest b in
+        let first = headless d p.uses block_rest b in
         let whole = spell_join top (used & body & symbol mark.Dot) rest ∙ ap (λ w. spell top w) (spell_join used (body & symbol mark.Dot) rest ∙ ap (λ w. spell used w) (spell_join body (symbol mark.Dot) rest)) in
         follow_then (optional_head_followed p.head heads.0 first.token first.more first.no_program s (along_as (whole ∙ ap (λ w. spell top w) first.is) h))
         (λ h. then_shrinks (optional_uses_shrinks d end) (λ u. then_shrinks (block_shrinks d end k) (λ b. then_shrinks (one_shrinks _) (λ v. λ m r k. pure_shrinks _ m r k)))) (λ _ r h.
@@ -331,12 +318,6 @@ module _ (n : Until) (W : Type 0) (d : Dialect) (end : Span) where
 
     -- ---- whole texts
 
-    -- a program begins with no head of a unit or module
-    program_first : (x : Option Head) (u : Option Uses) (rest : List Token) → Begins rest → (y : Token) × (w : List Token) × (spell (optional_part (option_map write_head x)) (spell (write_optional_uses d u) rest) ≡ y ∷ w) × (on_word word_.KwUnit y ≡ false) × (on_word word_.KwModule y ≡ false)
-    unfolding same_word
-    program_first (Some x) u rest b = (Word word_.KwProgram, _, refl, refl, refl)
-    program_first None u rest b = let first = headless u rest b in (first.token, first.more, first.is, first.no_unit, first.no_module)
-
     pub source_file_followed : (f : SourceFile) → Part W k (write_file d f) (formed_file d f) → (rest : List Token) (s : List Placed) → Along n (spell (write_file d f) rest) s → Followed n W rest (source_file d end k s)
     unfolding source_file same_word
     source_file_followed (text.UnitText x) part rest s h = follow_first _ _ _ (looks_at (looks_word word_.KwUnit) h) (follow_then (unit_followed x part rest s h) (λ u. pure_shrinks _) (λ u r h. follow_pure _ h))
@@ -345,6 +326,6 @@ module _ (n : Until) (W : Type 0) (d : Dialect) (end : Span) where
     source_file_followed (text.Program p) part rest s h =
         let top = optional_part (option_map write_head p.head) in let used = write_optional_uses d p.uses in let body = write_block d p.block in
         let whole = spell_join top (used & body & symbol mark.Dot) rest ∙ ap (λ w. spell top w) (spell_join used (body & symbol mark.Dot) rest ∙ ap (λ w. spell used w) (spell_join body (symbol mark.Dot) rest)) in
-        let (y, w, is, no_unit, no_module) = program_first p.head p.uses (spell body (Symbol mark.Dot ∷ rest)) (block_begins d p.block (Symbol mark.Dot ∷ rest)) in
+        let (y, w, is, no_unit, no_module) = program_first d p.head p.uses (spell body (Symbol mark.Dot ∷ rest)) (block_begins d p.block (Symbol mark.Dot ∷ rest)) in
         let first = along_as (whole ∙ is) h in
         follow_second _ _ _ (looks_at (looks_word word_.KwUnit) first ∙ no_unit) (follow_second _ _ _ (looks_at (looks_word word_.KwModule) first ∙ no_module) (follow_then (program_followed p part rest s h) (λ u. pure_shrinks _) (λ u r h. follow_pure _ h)))

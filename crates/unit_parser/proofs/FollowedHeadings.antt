@@ -33,7 +33,7 @@ use Rattle.unit_parser.specs.Grammar.{formed_heading}
 use Rattle.unit_parser.specs.Parts.{procedure_heading, optional_result, function_heading, heading}
 use Rattle.unit_parser.proofs.Shrinks.{optional_result_shrinks}
 
-abbrev write_optional : Option Formals → Layout
+abbrev pub write_optional : Option Formals → Layout
 write_optional f = optional_part (option_map write_formals f)
 
 module _ (n : Until) (W : Type 0) (end : Span) (k : ℕ) where

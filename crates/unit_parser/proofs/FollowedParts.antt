@@ -49,7 +49,7 @@ use Rattle.unit_parser.specs.Parts.{next_label, more_labels, labels, label_part_
 use Rattle.unit_parser.proofs.Shrinks.{labels_shrinks, value_shrinks, const_definition_shrinks, type_definition_shrinks, var_section_shrinks, next_const_definition_shrinks, const_definitions_shrinks, next_type_definition_shrinks, type_definitions_shrinks, next_var_section_shrinks, var_sections_shrinks}
 use Rattle.unit_parser.proofs.FollowedRows.{some_followed}
 
-not_true : (b : Bool) → IsTrue (not b) → b ≡ false
+pub not_true : (b : Bool) → IsTrue (not b) → b ≡ false
 not_true true h = sym h
 not_true false h = refl
 

@@ -20,4 +20,11 @@ pub mod UnitWords
 pub mod SoundPrograms
 pub mod SoundUnits
 pub mod Clauses
+pub mod ExactRows
+pub mod ExactParts
+pub mod ExactHeadings
+pub mod ExactDeclarations
+pub mod ExactBlocks
+pub mod ExactFiles
+pub mod ExactLaws
 pub mod Answered

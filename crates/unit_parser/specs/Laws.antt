@@ -14,6 +14,14 @@ use Rattle.unit_parser.specs.Files.{file}
 abbrev pub ReadIsDerived : Type 0
 ReadIsDerived = (d : Dialect) (end : Span) (tokens : List Placed) (f : SourceFile) → AreTokens d (plain tokens) → file d end 400 tokens ≡ Ok (f, []) → Derives d end f tokens
 
+-- a tree of the tokens is the one that is read
+abbrev pub DerivedIsRead : Type 0
+DerivedIsRead = (d : Dialect) (end : Span) (f : SourceFile) (tokens : List Placed) → Derives d end f tokens → file d end 400 tokens ≡ Ok (f, [])
+
+-- tokens have one tree
+abbrev pub DerivedIsUnique : Type 0
+DerivedIsUnique = (d : Dialect) (end : Span) (f g : SourceFile) (tokens : List Placed) → Derives d end f tokens → Derives d end g tokens → f ≡ g
+
 -- an unexpected token is the first with which no text begins, or the text is unfinished at its end
 abbrev pub UnexpectedIsFirst : Type 0
 UnexpectedIsFirst = (d : Dialect) (end : Span) (tokens : List Placed) (left : ℕ) → AreTokens d (plain tokens) → file d end 400 tokens ≡ Err (Unexpected left)

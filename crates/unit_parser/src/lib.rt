@@ -8,6 +8,7 @@
 
 mod blocks;
 mod files;
+pub mod laws;
 pub mod parsing;
 mod parts;
 #[cfg(test)]
