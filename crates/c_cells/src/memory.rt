@@ -93,6 +93,13 @@ impl Memory {
         }
     }
 
+    /// Whether a block is there that is that of an `int64_t` variable.
+    pub fn holds_int(&self, number: usize) -> bool
+        ensures { result ≡ true → HoldsInt self.now number }
+    {
+        is_number(&self.slots, number)
+    }
+
     /// Changes the number in the block of an `int64_t` variable. Where the block is no such one,
     /// nothing is done, and the answer is false.
     #[tactic(auto, using(crate::proofs::Blocks::set_int))]

@@ -16,7 +16,7 @@ use Rattle.c_meaning.specs.Evaluate.{View, Named, value, place, variable, name_v
 use Rattle.c_meaning.specs.States.{Names, global_from, number_of, numbered, store, store_named, view}
 use Rattle.c_meaning.specs.Steps.{names_from, taken, put_root, put_value, assign}
 use Rattle.c_cells.specs.Slots.{int_block, HoldsInt}
-use Rattle.c_evaluation.specs.Numbers.{place_number, NamesVariable, Evaluates, Puts, Chooses}
+use Rattle.c_evaluation.specs.Numbers.{place_number, NamesVariable, Evaluates, EvaluatesTwo, Puts, Chooses, NamesNone}
 use Rattle.c_evaluation.specs.Stores.{chosen, truth_in}
 use Rattle.c_evaluation.specs.Evaluations.{name_in}
 use Rattle.c_evaluation.specs.declared.numbers.Variable.{Variable}
@@ -36,6 +36,9 @@ module _ (c : CProgram) (x : Name) (ps ls : List CVariable) where
 
   pub own_global : (i : ℕ) → global_from 0 x ps ≡ None → global_from 0 x ls ≡ None → global_from 0 x c.globals ≡ Some i → NamesVariable c (ps ++ ls) (v.Global i) x
   own_global i h l g = λ base. global c x base ps ls h l ∙ g
+
+pub no_variable : (c : CProgram) (x : Name) (ps ls : List CVariable) → global_from 0 x ps ≡ None → global_from 0 x ls ≡ None → global_from 0 x c.globals ≡ None → NamesNone c (ps ++ ls) x
+no_variable c x ps ls h l g = λ base. global c x base ps ls h l ∙ g
 
 pub variable_held : (blocks : Blocks) (base : ℕ) (variable : Variable) (z : ℤ) → block_at blocks (place_number base variable) ≡ Some (int_block (Int z)) → Evaluates blocks base (n.Variable variable) z
 unfolding view numbered name_value
@@ -58,12 +61,16 @@ evaluated_variable blocks base number variable (Some z) is h = subst (λ m. Eval
 pub evaluated_written : (blocks : Blocks) (base : ℕ) (number : Number) (z z' : ℤ) → number ≡ n.Written z → z ≡ z' → Evaluates blocks base number z'
 evaluated_written blocks base number z z' is same = subst (λ m. Evaluates blocks base m z') (sym is) (subst (λ y. Evaluates blocks base (n.Written z) y) same (number_written blocks base z))
 
-pub evaluated_two : (blocks : Blocks) (base : ℕ) (number : Number) (op : CBinary) (a b : Box Number) (x y : ℤ) (o : Option ℤ) → number ≡ n.Two op a b
-    → Evaluates blocks base a.value x → Evaluates blocks base b.value y → ((ds : List CDeclaration) → IfSome o (λ z. joined ds op (int x) (Got (int y)) ≡ Got (int z))) → IfSome o (λ z. Evaluates blocks base number z)
-evaluated_two blocks base number op a b x y None is l r h = tt
-evaluated_two blocks base number op a b x y (Some z) is l r h = subst (λ m. Evaluates blocks base m z) (sym is) (λ c reach vars e d.
+pub evaluated_two : (blocks : Blocks) (base : ℕ) (number : Number) (op : CBinary) (a b : Box Number) (o : Option ℤ) → number ≡ n.Two op a b → IfSome o (λ z. EvaluatesTwo blocks base op a.value b.value z) → IfSome o (λ z. Evaluates blocks base number z)
+evaluated_two blocks base number op a b None is h = tt
+evaluated_two blocks base number op a b (Some z) is h = subst (λ m. Evaluates blocks base m z) (sym is) (λ c reach vars e d.
     let w : View = view c reach (names_from base vars) blocks in
-    ap (value w) d.2 ∙ two_given w op d.0 d.1 x y (Some z) (l c reach vars d.0 d.3) (r c reach vars d.1 d.4) (h w.declared))
+    ap (value w) d.2 ∙ two_given w op d.0 d.1 h.0 h.1 (Some z) (h.2 c reach vars d.0 d.3) (h.3 c reach vars d.1 d.4) (h.4 w.declared))
+
+pub joined_two : (blocks : Blocks) (base : ℕ) (op : CBinary) (a b : Number) (x y : ℤ) (o : Option ℤ)
+    → Evaluates blocks base a x → Evaluates blocks base b y → ((ds : List CDeclaration) → IfSome o (λ z. joined ds op (int x) (Got (int y)) ≡ Got (int z))) → IfSome o (λ z. EvaluatesTwo blocks base op a b z)
+joined_two blocks base op a b x y None l r h = tt
+joined_two blocks base op a b x y (Some z) l r h = (x, y, l, r, h)
 
 -- ---- statements
 

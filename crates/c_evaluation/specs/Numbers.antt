@@ -1,12 +1,14 @@
 -- Numbers whose names are resolved.
-use Rattle.std.specs.Prelude.{◌≡◌, Bool, ℕ, ◌+◌, ℤ, pos, List, ◌++◌, Some}
+use Rattle.std.specs.Prelude.{◌≡◌, Bool, ℕ, ◌+◌, ℤ, pos, List, ◌++◌, Some, None}
 use Rattle.c_tree.specs.Tree as t
 use Rattle.c_tree.specs.Tree.{Expr, Place}
+use Rattle.c_tree.specs.declared.operators.CBinary.{CBinary}
+use Rattle.c_tree.specs.declared.program.CDeclaration.{CDeclaration}
 use Rattle.c_tree.specs.declared.program.CVariable.{CVariable}
 use Rattle.c_tree.specs.declared.program.CProgram.{CProgram}
 use Rattle.c_meaning.specs.Cells.{Name, Blocks}
 use Rattle.c_meaning.specs.Answer.{Got}
-use Rattle.c_meaning.specs.Values.{int}
+use Rattle.c_meaning.specs.Values.{int, joined}
 use Rattle.c_meaning.specs.Evaluate.{value}
 use Rattle.c_meaning.specs.States.{number_of, view}
 use Rattle.c_meaning.specs.Steps.{names_from, assign}
@@ -30,6 +32,10 @@ place_number base (v.Global at) = at
 abbrev pub NamesVariable : CProgram → List CVariable → Variable → Name → Type 0
 NamesVariable c vars variable x = (base : ℕ) → number_of c (names_from base vars) x ≡ Some (place_number base variable)
 
+-- and it names none
+abbrev pub NamesNone : CProgram → List CVariable → Name → Type 0
+NamesNone c vars x = (base : ℕ) → number_of c (names_from base vars) x ≡ None
+
 -- the place is a name of the variable
 abbrev pub IsVariable : CProgram → List CVariable → Variable → Place → Type 0
 IsVariable c vars variable at = (x : Name) × (at ≡ t.Variable x) × NamesVariable c vars variable x
@@ -44,6 +50,10 @@ Resolves c vars (n.Two' op p a q b) e = (x : Expr) × (y : Expr) × (e ≡ t.Bin
 abbrev pub Evaluates : Blocks → ℕ → Number → ℤ → Type 0
 Evaluates blocks base number z = (c : CProgram) (reach : ℕ) (vars : List CVariable) (e : Expr) → Resolves c vars number e
     → value (view c reach (names_from base vars) blocks) e ≡ Got (int z)
+
+-- the same of an operator between two
+abbrev pub EvaluatesTwo : Blocks → ℕ → CBinary → (a b : Number) → ℤ → Type 0
+EvaluatesTwo blocks base op a b z = (x : ℤ) × (y : ℤ) × Evaluates blocks base a x × Evaluates blocks base b y × ((ds : List CDeclaration) → joined ds op (int x) (Got (int y)) ≡ Got (int z))
 
 -- with these blocks before and after, each place that the variable is gets the value of each expression that the number is
 abbrev pub Puts : (old new : Blocks) → ℕ → Variable → Number → Type 0

@@ -1,6 +1,6 @@
 //! Numbers of `int64_t` whose names are resolved before the program runs. Where such a number is
 //! not found, the expression is evaluated step by step.
-ghost use Rattle.std.specs.Prelude.{◌≡◌, List, Some, true, false, pos, IfSome, IfOk};
+ghost use Rattle.std.specs.Prelude.{◌≡◌, List, map, Some, true, false, pos, IfSome, IfOk};
 ghost use Rattle.c_tree.specs.Tree as t;
 ghost use Rattle.c_tree.specs.declared.program.CDeclaration.{CDeclaration};
 ghost use Rattle.c_meaning.specs.Answer.{Got};
@@ -8,8 +8,9 @@ ghost use Rattle.c_meaning.specs.Cells as c;
 ghost use Rattle.c_meaning.specs.Cells.{block_at};
 ghost use Rattle.c_meaning.specs.States.{global_from};
 ghost use Rattle.c_meaning.specs.Values as w;
+ghost use Rattle.name_tables.specs.Places.{first_from, function_name};
 ghost use Rattle.c_cells.specs.Slots.{int_block};
-ghost use Rattle.c_evaluation.specs.Numbers.{variables_of, place_number as number_placed, NamesVariable, IsVariable, Resolves, Evaluates, Puts, Chooses};
+ghost use Rattle.c_evaluation.specs.Numbers.{variables_of, place_number as number_placed, NamesVariable, IsVariable, Resolves, Evaluates, EvaluatesTwo, Puts, Chooses, NamesNone};
 
 use crate::evaluate::single_name;
 use crate::function_names::Names;
@@ -59,6 +60,30 @@ pub fn variable_named(names: &Names, name: &Name) -> Option<Variable>
             },
         },
     }
+}
+
+/// Whether a name is that of a variable.
+#[tactic(auto, using(crate::proofs::Resolving::no_variable))]
+pub fn names_variable(names: &Names, name: &Name) -> bool
+    ensures { result ≡ false → NamesNone names.now.program.now (variables_of names.now) name.now }
+{
+    match variable_at(names.parameters, name) {
+        Some(_) => true,
+        None => match variable_at(names.locals, name) {
+            Some(_) => true,
+            None => match global_named(names, name) {
+                Some(_) => true,
+                None => false,
+            },
+        },
+    }
+}
+
+/// The first function with a name.
+pub fn function_named(names: &Names, name: &Name) -> Option<usize>
+    ensures { result ≡ first_from 0 name.now (map function_name names.now.program.now.functions) }
+{
+    names.tables.functions.get(name)
 }
 
 /// The variable that a place is.
@@ -144,20 +169,27 @@ fn number_held(memory: &Memory, base: usize, variable: Variable) -> Option<i64>
 }
 
 /// The number of an expression, where it is found so.
+#[cycle(evaluated)]
 pub fn evaluated(memory: &Memory, base: usize, number: &Number) -> Option<i64>
     ensures { IfSome result (λ z. Evaluates memory.now base number.now z) }
 {
     match number {
         Number::Variable(variable) => number_held(memory, base, *variable),
         Number::Written(z) => Some(*z),
-        Number::Two(op, a, b) => {
-            match (evaluated(memory, base, a), evaluated(memory, base, b)) {
-                (Some(x), Some(y)) => operation(*op, x, y),
-                _ => None,
-            }
-        }
+        Number::Two(op, a, b) => evaluated_two(memory, base, *op, a, b),
     }
 }
+
+#[cycle(evaluated)]
+fn evaluated_two(memory: &Memory, base: usize, op: CBinary, a: &Number, b: &Number) -> Option<i64>
+    ensures { IfSome result (λ z. EvaluatesTwo memory.now base op a.now b.now z) }
+{
+    match (evaluated(memory, base, a), evaluated(memory, base, b)) {
+        (Some(x), Some(y)) => operation(op, x, y),
+        _ => None,
+    }
+}
+
 /// `variable = number;`, where both are found so. Else nothing is done, and the answer is false.
 #[tactic(auto, using(crate::proofs::Resolving::put))]
 pub fn put_number(memory: &mut Memory, base: usize, variable: Variable, number: &Number) -> bool

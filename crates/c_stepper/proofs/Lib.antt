@@ -12,3 +12,4 @@ pub mod Seeking
 pub mod Machining
 pub mod Coding
 pub mod Quickly
+pub mod QuickCalling

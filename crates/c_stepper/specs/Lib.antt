@@ -6,3 +6,4 @@ pub mod Marks
 pub mod Leaving
 pub mod Machines
 pub mod Quick
+pub mod QuickCalls

@@ -78,7 +78,8 @@ stored_type (Some n) of = y.Array n of
 
 abbrev pub target_of : Target → m.Target
 target_of g.Nowhere = m.Nowhere
-target_of (g.Into number path array of) = m.Into number path (stored_type array of)
+target_of (g.Int number) = m.Into number [] (y.Plain t.Int)
+target_of (g.Into part) = let p = part.value in m.Into p.number p.path (stored_type p.array p.of)
 
 abbrev pub frame_of : CProgram → Frame → m.Frame
 frame_of c f = let p = parts_at c f.function in record {

@@ -8,10 +8,12 @@ ghost use Rattle.c_evaluation.specs.Scopes.{view_at, site_of, HasRoom};
 ghost use Rattle.c_tree.specs.types.View.{base_of as written_base};
 ghost use Rattle.c_evaluation.specs.Types.{object_of, base_of, place_type_of};
 ghost use Rattle.c_evaluation.specs.Values.{value_of as worth, values_of, content_of, now_of};
-ghost use Rattle.c_stepper.specs.Runners.{target_of as meant};
+ghost use Rattle.c_meaning.specs.States.{Into};
+ghost use Rattle.c_stepper.specs.Runners.{target_of as meant, stored_type};
 ghost use Rattle.c_stepper.specs.Calls.{function_from, callee_value, function_called, callee_function, parameter_block, pointed_name, is_named, IsEntry, entered_of, entered, entered_with, fitted, placed, site_target};
 
-use crate::runner::{Target, written_text};
+use crate::runner::{Part, Target, written_text};
+use c_cells::Path;
 use c_cells::cell::copied;
 use c_cells::fresh::copy_type;
 use c_cells::halt::Halt;
@@ -207,6 +209,25 @@ fn owned_type(alloc: Global, of: Object) -> Result<CType, AllocError>
     })
 }
 
+/// A part of a block, for an answer.
+fn into_part(
+    alloc: Global,
+    number: usize,
+    path: Path,
+    array: Option<u64>,
+    of: CType,
+) -> Result<Target, AllocError>
+    ensures { IfOk result (λ target. meant target ≡ Into number path (stored_type array of)) }
+{
+    let part = Part {
+        number,
+        path,
+        array,
+        of,
+    };
+    Ok(Target::Into(Box::new(alloc, part)?))
+}
+
 /// A place of a block, for an answer.
 fn into_block(alloc: Global, number: usize, site: Site) -> Result<Target, Halt>
     ensures { Tells meant result (Got (placed number (site_of site.entry))) }
@@ -214,11 +235,11 @@ fn into_block(alloc: Global, number: usize, site: Site) -> Result<Target, Halt>
     match site.of {
         PlaceType::Plain(of) => {
             let of = owned_type(alloc, of)?;
-            Ok(Target::Into(number, site.path, None, of))
+            Ok(into_part(alloc, number, site.path, None, of)?)
         }
         PlaceType::Array(length, of) => {
             let of = owned_type(alloc, of)?;
-            Ok(Target::Into(number, site.path, Some(length), of))
+            Ok(into_part(alloc, number, site.path, Some(length), of)?)
         }
     }
 }

@@ -13,7 +13,7 @@ ghost use Rattle.c_cells.specs.Halts.{Tells};
 ghost use Rattle.c_evaluation.specs.Types.{object_of};
 ghost use Rattle.c_stepper.specs.Guides.{IsGuide};
 ghost use Rattle.c_stepper.specs.Spots.{todo_at};
-ghost use Rattle.c_stepper.specs.Runners.{state_of, runner_view, body_at, frame_of, frames_of, target_of as meant, parts_at, variables_at, FitsFrame, FitsFrames, Acts, name_at};
+ghost use Rattle.c_stepper.specs.Runners.{state_of, runner_view, body_at, frame_of, frames_of, target_of as meant, parts_at, variables_at, FitsFrame, FitsFrames, Acts, name_at, statement_at};
 ghost use Rattle.c_stepper.specs.Calls.{IsEntry, entered_of, entered, entered_state, entry_done};
 ghost use Rattle.c_stepper.specs.Leaving.{given_of, Answers};
 
@@ -21,6 +21,7 @@ use crate::call::{Entry, entered};
 use crate::guide::Guide;
 use crate::leave::{Given, answer_stored, forget_variables, put_answer, returned, status_of};
 use crate::names::ends_in_number;
+use crate::quick_call::{quick_entry, quick_given};
 use crate::runner::{Done, Frame, Runner, Target, written_text};
 use crate::spot::Spot;
 use c_cells::fresh::push_fresh;
@@ -116,8 +117,29 @@ impl Runner {
         })
     }
 
-    /// What a call enters.
+    /// What the call that comes next enters.
     fn entry<'a>(
+        &'a self,
+        program: &'a CProgram,
+        into: &'a Option<CPlace>,
+        who: &'a CCallee,
+        arguments: &'a [CExpr],
+    ) -> Result<Entry, Halt>
+        requires fits { FitsFrame program.now self.now.frame }
+        requires guide { IsGuide program.now self.now.guide }
+        requires here { statement_at program.now self.now.frame ≡ Some (t.Call into.now who.now arguments.now) }
+        ensures entry { IfOk result (IsEntry program.now) }
+        ensures value { Tells entered_of result (entered program.now (runner_view program.now self.now) into.now who.now arguments.now) }
+    {
+        let found = quick_entry(self.alloc, &self.frame, &self.memory, &self.guide)?;
+        match found {
+            Some(entry) => Ok(entry),
+            None => self.entry_stepwise(program, into, who, arguments),
+        }
+    }
+
+    /// The same by its parts, one after another.
+    fn entry_stepwise<'a>(
         &'a self,
         program: &'a CProgram,
         into: &'a Option<CPlace>,
@@ -196,6 +218,7 @@ impl Runner {
     ) -> Result<Done, Halt>
         requires fits { FitsFrames program.now self.old }
         requires small { self.old.frame.spot.at + 1 < 2 ^ 64 }
+        requires here { statement_at program.now self.old.frame ≡ Some (t.Call into.now who.now arguments.now) }
         ensures act { (input output calls : List ℕ) → Acts program.now self.new input output calls result
             (do_statement program.now (runner_view program.now self.old) (state_of program.now self.old input output calls)
             (todo_at (body_at program.now self.old.frame) self.old.frame.spot.outer.items (self.old.frame.spot.at + 1)) (t.Call into.now who.now arguments.now)) }
@@ -207,8 +230,26 @@ impl Runner {
 
     // ---- the end of a function
 
-    /// What `return` gives.
+    /// What the `return` that comes next gives.
     fn given<'p>(
+        &self,
+        program: &'p CProgram,
+        e: &'p Option<CExpr>,
+    ) -> Result<Option<Given<'p>>, Halt>
+        requires fits { FitsFrame program.now self.now.frame }
+        requires guide { IsGuide program.now self.now.guide }
+        requires here { statement_at program.now self.now.frame ≡ Some (t.Return e.now) }
+        ensures { Tells (option_map given_of) result (m.returned (runner_view program.now self.now) (parts_at program.now self.now.frame.function).result e.now) }
+    {
+        let of = result_of(program, self.frame.function);
+        match quick_given(&self.frame, &self.memory, &self.guide, of) {
+            Some(given) => Ok(Some(given)),
+            None => self.given_stepwise(program, e),
+        }
+    }
+
+    /// The same by its parts, one after another.
+    fn given_stepwise<'p>(
         &self,
         program: &'p CProgram,
         e: &'p Option<CExpr>,
@@ -291,6 +332,7 @@ impl Runner {
 
     pub fn give(&mut self, program: &CProgram, e: &Option<CExpr>) -> Result<Done, Halt>
         requires fits { FitsFrames program.now self.old }
+        requires here { statement_at program.now self.old.frame ≡ Some (t.Return e.now) }
         ensures act { (input output calls : List ℕ) → Acts program.now self.new input output calls result
             (do_statement program.now (runner_view program.now self.old) (state_of program.now self.old input output calls)
             (todo_at (body_at program.now self.old.frame) self.old.frame.spot.outer.items (self.old.frame.spot.at + 1)) (t.Return e.now)) }

@@ -30,6 +30,7 @@ use c_tree::expr::CExpr;
 use c_tree::program::CVariable;
 use c_tree::types::CType;
 use std::alloc::{AllocError, Global};
+use tree_lists::Items;
 
 // ---- what a function gives
 
@@ -137,9 +138,20 @@ pub fn answer_stored(
 {
     match target {
         Target::Nowhere => Ok(None),
-        Target::Into(number, path, array, of) => match answer {
+        Target::Int(number) => match answer {
             None => Err(Halt::Stuck(StuckKind::NoValue)),
-            Some(given) => store_of(scope, *number, path, place_type(*array, of), given),
+            Some(given) => {
+                let whole = Items::new(scope.alloc);
+                let of = PlaceType::Plain(Object::int());
+                store_of(scope, *number, &whole, of, given)
+            }
+        },
+        Target::Into(part) => match answer {
+            None => Err(Halt::Stuck(StuckKind::NoValue)),
+            Some(given) => {
+                let of = place_type(part.array, &part.of);
+                store_of(scope, part.number, &part.path, of, given)
+            }
         },
     }
 }

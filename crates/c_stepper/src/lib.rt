@@ -12,6 +12,7 @@ mod leave;
 mod machine;
 mod names;
 mod quick;
+mod quick_call;
 mod runner;
 mod spot;
 

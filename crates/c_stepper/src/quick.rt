@@ -69,7 +69,7 @@ fn node_at<'a>(code: &'a Code, spot: &Spot) -> Option<&'a Node>
 
 /// The node of the statement that comes next.
 #[tactic(auto, using(crate::proofs::Coding::is_here))]
-fn node_here<'a>(guide: &'a Guide, frame: &Frame) -> Option<&'a Node>
+pub fn node_here<'a>(guide: &'a Guide, frame: &Frame) -> Option<&'a Node>
     ensures { IfSome result (λ node. IsHere guide.now frame.now node.now) }
 {
     match code_of(&guide.code, frame.function) {

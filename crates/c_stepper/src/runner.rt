@@ -39,11 +39,22 @@ pub enum Done {
     Ended(u8),
 }
 
-/// Where the answer of a call goes: nowhere, or to a place of a type, which may be an array.
+/// A part of a block, with its type, which may be an array.
+#[derive(Drop)]
+pub struct Part {
+    pub number: usize,
+    pub path: Path,
+    pub array: Option<u64>,
+    pub of: CType,
+}
+
+/// Where the answer of a call goes: nowhere, to the whole block of an `int64_t`, or to a part of a
+/// block.
 #[derive(Drop)]
 pub enum Target {
     Nowhere,
-    Into(usize, Path, Option<u64>, CType),
+    Int(usize),
+    Into(Box<Part>),
 }
 
 /// A function that runs: its number, or none for `main`.

@@ -2,6 +2,16 @@
 
 use c_evaluation::numbers::{Number, Variable};
 
+/// A call of a function whose parameters are of `int64_t`.
+#[derive(Drop)]
+pub struct ResolvedCall {
+    /// The number of the function.
+    pub function: usize,
+    /// The variable for its answer.
+    pub target: Option<Variable>,
+    pub arguments: Vec<Number>,
+}
+
 /// What a statement does, where numbers and variables of `int64_t` say it.
 #[derive(Drop)]
 pub enum Resolved {
@@ -11,6 +21,7 @@ pub enum Resolved {
     Test(Number),
     /// The test of an `if` with `else`.
     Choose(Number),
+    Call(ResolvedCall),
     /// `return number;`
     Give(Number),
     /// Any other statement.

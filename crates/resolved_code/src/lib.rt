@@ -3,9 +3,10 @@
 //! `ProgramCode::new` notes them once, in a walk over the program's text.
 #![tactic(auto)]
 
+mod call;
 mod code;
 mod note;
 mod resolve;
 
-pub use code::{Code, Node, Resolved};
+pub use code::{Code, Node, Resolved, ResolvedCall};
 pub use note::ProgramCode;

@@ -4,6 +4,7 @@ ghost use Rattle.c_tree.specs.Tree as t;
 ghost use Rattle.c_evaluation.specs.Numbers.{variables_of};
 ghost use Rattle.resolved_code.specs.Codes.{IsResolved, IsTest, IsChoice};
 
+use crate::call::call_resolved;
 use crate::code::Resolved;
 use c_evaluation::function_names::Names;
 use c_evaluation::numbers::{resolved, variable_placed};
@@ -75,6 +76,9 @@ pub fn statement_resolved(
 {
     match &statement.node {
         CStatementNode::Assign(place, e) => store_resolved(alloc, names, place, e),
+        CStatementNode::Call(into, who, arguments) => {
+            call_resolved(alloc, names, into, who, arguments.as_slice())
+        }
         CStatementNode::If(e, _) => test_resolved(alloc, names, e),
         CStatementNode::IfElse(e, _, _) => choice_resolved(alloc, names, e),
         CStatementNode::While(e, _) => test_resolved(alloc, names, e),
