@@ -1,10 +1,12 @@
 -- A block by its number.
 use Rattle.std.proofs.Common.{◌≡◌, ℕ, zero, suc, ◌≤◌, List, [], ◌∷◌, length, Option, Some, None, refl, sym, ap, ◌∙◌, arith}
-use Rattle.std.specs.Prelude.{slice_get, slice_set}
-use Rattle.c_meaning.specs.Cells.{Tree, Block, Blocks, joined_option, block_at, with_part}
+use Rattle.std.specs.Prelude.{ℤ, slice_get, slice_set}
+use Rattle.c_meaning.specs.declared.StuckKind.{StuckKind}
+use Rattle.c_meaning.specs.Cells.{Tree, Leaf, Int, Block, Blocks, joined_option, block_at, with_part}
 use Rattle.c_meaning.specs.Answer.{Got, Bad}
 use Rattle.c_meaning.specs.States.{changed, store}
 use Rattle.c_meaning.specs.declared.StuckKind.TheVariants as k
+use Rattle.c_cells.specs.Slots.{int_block, HoldsInt, changed_block}
 
 pub block_some : (blocks : Blocks) (n : ℕ) (o : Option Block) → slice_get blocks n ≡ Some o → block_at blocks n ≡ o
 unfolding block_at joined_option
@@ -29,17 +31,25 @@ pub store_past : (blocks : Blocks) (n : ℕ) (path : List ℕ) (tree : Tree) →
 unfolding store changed
 store_past blocks n path tree h = ap (changed blocks n path tree) (block_past blocks n h)
 
-pub store_gone : (blocks : Blocks) (n : ℕ) (path : List ℕ) (tree : Tree) → slice_get blocks n ≡ Some None → store blocks n path tree ≡ Bad k.GoneUse
-unfolding store changed
-store_gone blocks n path tree h = ap (changed blocks n path tree) (block_some blocks n None h)
-
 set_twice : (blocks : Blocks) (n : ℕ) (a b : Option Block) → slice_set (slice_set blocks n a) n b ≡ slice_set blocks n b
 set_twice [] n a b = refl
 set_twice (x ∷ rest) zero a b = refl
 set_twice (x ∷ rest) (suc n) a b = ap (λ l. x ∷ l) (set_twice rest n a b)
 
--- a block that was taken out and put back changed
-pub store_there : (blocks : Blocks) (n : ℕ) (path : List ℕ) (tree : Tree) (b : Block) → slice_get blocks n ≡ Some (Some b)
-    → store blocks n path tree ≡ Got (slice_set (slice_set blocks n None) n (Some (record b { tree = with_part path tree b.tree })))
-unfolding store changed
-store_there blocks n path tree b h = ap (changed blocks n path tree) (block_some blocks n (Some b) h) ∙ ap Got (sym (set_twice blocks n None (Some (record b { tree = with_part path tree b.tree }))))
+module _ (blocks : Blocks) (n : ℕ) (path : List ℕ) (tree : Tree) where
+  -- a block that was taken out and put back changed
+  pub store_there : (old new : Option Block) → slice_get blocks n ≡ Some old → Got new ≡ changed_block path tree old → store blocks n path tree ≡ Got (slice_set (slice_set blocks n None) n new)
+  unfolding store changed
+  store_there None new h c = cc
+  store_there (Some b) new h c =
+      let there : Some (record b { tree = with_part path tree b.tree }) ≡ new = cc in
+      ap (changed blocks n path tree) (block_some blocks n (Some b) h) ∙ ap Got (sym (set_twice blocks n None (Some (record b { tree = with_part path tree b.tree })))) ∙ ap (λ o. Got (slice_set (slice_set blocks n None) n o)) there
+
+  pub store_none : (old : Option Block) (kind : StuckKind) → slice_get blocks n ≡ Some old → Bad kind ≡ changed_block path tree old → store blocks n path tree ≡ Bad kind
+  unfolding store changed
+  store_none None kind h c = let same : k.GoneUse ≡ kind = cc in ap (changed blocks n path tree) (block_some blocks n None h) ∙ ap Bad same
+  store_none (Some b) kind h c = cc
+
+pub set_int : (blocks : Blocks) (n : ℕ) (z : ℤ) → HoldsInt blocks n → store blocks n [] (Leaf (Int z)) ≡ Got (slice_set blocks n (Some (int_block (Int z))))
+unfolding store changed with_part
+set_int blocks n z h = ap (changed blocks n [] (Leaf (Int z))) (block_some blocks n (Some (int_block h.0)) h.1)

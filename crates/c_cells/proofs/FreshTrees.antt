@@ -1,5 +1,6 @@
 -- Fresh trees, as they are built.
-use Rattle.std.proofs.Common.{◌≡◌, ℕ, zero, suc, ◌<◌, List, [], ◌∷◌, ◌++◌, map, Bool, true, false, refl, sym, ap, ◌∙◌, take, length, reverse, replicate, ◌-◌, ◌≤◌, get_or, arith}
+use Rattle.std.proofs.Common.{◌≡◌, ℕ, zero, suc, ◌<◌, List, [], ◌∷◌, ◌++◌, map, Bool, true, false, refl, sym, ap, ◌∙◌, take, length, reverse, replicate, ◌-◌, ◌≤◌, get_or, arith, Option}
+use Rattle.std.specs.Prelude.{ℤ, pos}
 use Rattle.std.proofs.lemmas.List.{append-nil, take_more, reverse-append}
 use Rattle.std.specs.Str.{bytes_eq}
 use Rattle.c_tree.specs.declared.program.CMember.{CMember}
@@ -7,9 +8,17 @@ use Rattle.c_tree.specs.declared.program.CStruct.{CStruct}
 use Rattle.c_tree.specs.declared.program.CTypedef.{CTypedef}
 use Rattle.c_tree.specs.declared.program.CDeclaration.{CDeclaration}
 use Rattle.c_tree.specs.declared.program.CDeclaration.TheVariants as d
-use Rattle.c_meaning.specs.Cells.{Name, Tree, Fork, End}
-use Rattle.c_meaning.specs.Fresh.{fresh, object_tree, copies, member_tree, members_tree, struct_tree}
+use Rattle.c_tree.specs.Tree as t
+use Rattle.c_tree.specs.declared.program.CVariable.{CVariable}
+use Rattle.c_meaning.specs.Cells.{Name, Int, Tree, Leaf, Fork, End}
+use Rattle.c_meaning.specs.Fresh.{fresh, fresh_block, object_tree, copies, member_tree, members_tree, struct_tree}
 use Rattle.c_cells.specs.Forks.{forks}
+use Rattle.c_cells.specs.Scalars.{scalar_cell}
+use Rattle.c_cells.specs.Slots.{int_cell, int_block}
+
+pub int_block_fresh : (zeroed : Bool) (ds : List CDeclaration) (x : CVariable) (o : Option ℤ) → x.of ≡ t.Int → int_cell o ≡ scalar_cell zeroed (Int (pos 0)) → int_block (int_cell o) ≡ fresh_block zeroed ds x
+unfolding fresh_block fresh object_tree
+int_block_fresh zeroed ds x o of cell = λ i. record { of = sym of i; tree = (ap Leaf cell ∙ ap (fresh zeroed ds) (sym of)) i; heap = false }
 
 pub copies_replicate : (n : ℕ) (a : Tree) → forks (replicate n a) ≡ copies n a
 unfolding copies

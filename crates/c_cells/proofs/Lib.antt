@@ -1,3 +1,4 @@
 pub mod Trees
 pub mod Blocks
 pub mod FreshTrees
+pub mod Slots

@@ -108,6 +108,9 @@ coded_block = coded blocks
 abbrev maybe_blocks : Stored (Option Block)
 maybe_blocks = options blocks
 
+abbrev pub coded_slot : Coded (Option Block)
+coded_slot = coded maybe_blocks
+
 abbrev all_blocks : Stored Blocks
 all_blocks = lists maybe_blocks
 

@@ -4,3 +4,5 @@ pub mod Views
 pub mod TreeViews
 pub mod Falls
 pub mod Scalars
+pub mod Halts
+pub mod Slots

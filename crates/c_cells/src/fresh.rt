@@ -1,10 +1,13 @@
 //! The trees with which blocks begin.
-ghost use Rattle.std.specs.Prelude.{◌≡◌, ◌++◌, ◌<◌, ◌^◌, IfOk, OnOk, length, reverse};
-ghost use Rattle.c_meaning.specs.Fresh.{fresh, fresh_blocks, struct_tree, members_tree, member_tree, copies};
-ghost use Rattle.c_cells.specs.Scalars.{scalar_tree};
+ghost use Rattle.std.specs.Prelude.{◌≡◌, ◌++◌, ◌∷◌, [], Some, pos, ◌<◌, ◌^◌, IfOk, OnOk, length, reverse};
+ghost use Rattle.c_meaning.specs.Fresh.{fresh, fresh_block as fresh_variable, fresh_blocks, struct_tree, members_tree, member_tree, copies};
+ghost use Rattle.c_meaning.specs.Cells.{Int};
+ghost use Rattle.c_cells.specs.Scalars.{scalar_tree, scalar_cell};
+ghost use Rattle.c_cells.specs.Slots.{int_cell};
 
 use crate::cell::{Cell, CellNode, copied};
 use crate::memory::{Block, Memory};
+use crate::slot::is_int;
 use crate::tree::CellTree;
 use c_tree::program::{CDeclaration, CMember, CVariable};
 use c_tree::types::{CBaseType, CType};
@@ -51,6 +54,31 @@ pub fn fresh_block(
     })
 }
 
+/// The number with which an `int64_t` begins.
+fn first_number(zeroed: bool) -> Option<i64>
+    ensures { int_cell result ≡ scalar_cell zeroed (Int (pos 0)) }
+{
+    if zeroed { Some(0) } else { None }
+}
+
+/// Makes the block of a variable.
+#[tactic(auto, using(crate::proofs::FreshTrees::int_block_fresh), unfolding(c_meaning::specs::Fresh::fresh_block))]
+fn push_variable(
+    alloc: Global,
+    zeroed: bool,
+    declared: &[CDeclaration],
+    variable: &CVariable,
+    memory: &mut Memory,
+) -> Result<(), AllocError>
+    ensures { OnOk result (memory.new ≡ memory.old ++ Some (fresh_variable zeroed declared.now variable.now) ∷ []) }
+{
+    if is_int(&variable.of) {
+        return memory.push_int(first_number(zeroed));
+    }
+    let block = fresh_block(alloc, zeroed, false, declared, &variable.of)?;
+    memory.push(alloc, block)
+}
+
 /// Makes the blocks of variables. The answer is the number of the block that is made next.
 #[tactic(auto, unfolding(c_meaning::specs::Fresh::fresh_blocks, c_meaning::specs::Fresh::fresh_block))]
 pub fn push_fresh(
@@ -66,7 +94,7 @@ pub fn push_fresh(
 {
     let mut rest = variables;
     while let [first, after @ ..] = rest {
-        memory.push(fresh_block(alloc, zeroed, false, declared, &first.of)?)?;
+        push_variable(alloc, zeroed, declared, first, memory)?;
         rest = after;
     }
     Ok(memory.made())

@@ -4,7 +4,9 @@
 
 pub mod cell;
 pub mod fresh;
+pub mod halt;
 pub mod memory;
+pub mod slot;
 pub mod tree;
 
 use tree_lists::Items;

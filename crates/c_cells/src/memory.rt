@@ -1,10 +1,14 @@
 //! Blocks by their numbers.
-ghost use Rattle.std.specs.Prelude.{◌≡◌, ◌<◌, ◌^◌, ◌∷◌, ◌++◌, [], OnOk, OnErr, IfErr, vec_len, length, slice_get, slice_set};
-ghost use Rattle.std.specs.Option.{option_copied};
-ghost use Rattle.c_meaning.specs.Cells.{block_at, with_part};
-ghost use Rattle.c_meaning.specs.Answer.{Got, Bad};
+ghost use Rattle.std.specs.Prelude.{◌≡◌, ◌<◌, ◌^◌, ◌∷◌, ◌++◌, [], Some, None, true, false, OnOk, OnErr, IfErr, IfSome, vec_len, length, slice_get, slice_set};
+ghost use Rattle.std.specs.Option.{option_copied, option_map};
+ghost use Rattle.c_meaning.specs.Cells.{Leaf, Int, block_at};
+ghost use Rattle.c_meaning.specs.Answer.{Got};
 ghost use Rattle.c_meaning.specs.States.{store};
+ghost use Rattle.c_cells.specs.Halts.{Refuses};
+ghost use Rattle.c_cells.specs.Slots.{found_block, int_block, int_cell, HoldsInt};
 
+use crate::halt::Halt;
+use crate::slot::{Found, Slot};
 use crate::tree::CellTree;
 use c_meaning::StuckKind;
 use c_tree::types::CType;
@@ -32,25 +36,11 @@ impl Model for Block {
     ghost view = { λ a. record { of = a.of; tree = a.tree; heap = a.heap } };
 }
 
-impl Block {
-    /// The same block with another part at a path.
-    fn with_part(self, path: &[usize], new: CellTree) -> Block
-        ensures { result ≡ record self { tree = with_part path.now new self.tree } }
-    {
-        let Block { of, tree, heap } = self;
-        Block {
-            of,
-            tree: tree.with_part(path, new),
-            heap,
-        }
-    }
-}
-
 /// The blocks that were made, each under the next number. One that is gone leaves its number
 /// behind, so that no number is given twice.
 #[derive(Debug, Drop)]
 pub struct Memory {
-    blocks: Vec<Option<Block>>,
+    slots: Vec<Slot>,
 }
 
 impl Model for Memory {
@@ -61,7 +51,7 @@ impl Model for Memory {
 
     ghost coded = { coded_blocks };
 
-    ghost view = { λ a. a.blocks.items };
+    ghost view = { λ a. a.slots.items };
 }
 
 impl Memory {
@@ -69,7 +59,7 @@ impl Memory {
         ensures { result ≡ [] }
     {
         Memory {
-            blocks: Vec::new(alloc),
+            slots: Vec::new(alloc),
         }
     }
 
@@ -78,26 +68,60 @@ impl Memory {
         ensures value { result ≡ length self.now }
         ensures small { result < 2 ^ 63 }
     {
-        self.blocks.len()
+        self.slots.len()
     }
 
     /// The block with a number, where it is there.
     #[tactic(auto, using(crate::proofs::Blocks::block_some, crate::proofs::Blocks::block_none))]
-    pub fn get(&self, number: usize) -> Option<&Block>
-        ensures { option_copied result ≡ block_at self.now number }
+    pub fn get(&self, number: usize) -> Option<Found>
+        ensures { option_map found_block result ≡ block_at self.now number }
     {
-        match slot(&self.blocks, number) {
-            Some(block) => block.as_ref(),
+        match slot(&self.slots, number) {
+            Some(slot) => slot.found(),
             None => None,
         }
     }
 
-    /// Makes a block.
-    pub fn push(&mut self, block: Block) -> Result<(), AllocError>
-        ensures ok { OnOk result (self.new ≡ self.old ++ Some block ∷ []) }
-        ensures err { OnErr result (self.new ≡ self.old) }
+    /// The number in the block of an `int64_t` variable, where it has one.
+    #[tactic(auto, using(crate::proofs::Blocks::block_some))]
+    pub fn get_number(&self, number: usize) -> Option<i64>
+        ensures { IfSome result (λ z. block_at self.now number ≡ Some (int_block (Int z))) }
     {
-        self.blocks.push(Some(block))?;
+        match slot(&self.slots, number) {
+            Some(slot) => slot.get_number(),
+            None => None,
+        }
+    }
+
+    /// Changes the number in the block of an `int64_t` variable. Where the block is no such one,
+    /// nothing is done, and the answer is false.
+    #[tactic(auto, using(crate::proofs::Blocks::set_int))]
+    pub fn set_number(&mut self, number: usize, z: i64) -> bool
+        ensures stored { result ≡ true → store self.old number [] (Leaf (Int z)) ≡ Got self.new }
+        ensures int { result ≡ true → HoldsInt self.old number }
+        ensures same { result ≡ false → self.new ≡ self.old }
+    {
+        if !is_number(&self.slots, number) {
+            return false;
+        }
+        let old = swap_in(&mut self.slots, number, Slot::int(Some(z)));
+        drop(old);
+        true
+    }
+
+    /// Makes a block.
+    pub fn push(&mut self, alloc: Global, block: Block) -> Result<(), AllocError>
+        ensures { OnOk result (self.new ≡ self.old ++ Some block ∷ []) }
+    {
+        self.slots.push(Slot::new(alloc, block)?)?;
+        Ok(())
+    }
+
+    /// Makes the block of an `int64_t` variable.
+    pub fn push_int(&mut self, number: Option<i64>) -> Result<(), AllocError>
+        ensures { OnOk result (self.new ≡ self.old ++ Some (int_block (int_cell number)) ∷ []) }
+    {
+        self.slots.push(Slot::int(number))?;
         Ok(())
     }
 
@@ -106,46 +130,48 @@ impl Memory {
         ensures ok { OnOk result (self.new ≡ self.old ++ more) }
         ensures err { OnErr result (self.new ≡ self.old) }
     {
-        let Memory { mut blocks } = more;
-        self.blocks.append(&mut blocks)?;
+        let Memory { mut slots } = more;
+        self.slots.append(&mut slots)?;
         Ok(())
     }
 
-    /// Makes the block with a number be gone, and gives it where it was there.
-    #[tactic(auto, using(crate::proofs::Blocks::block_some, crate::proofs::Blocks::block_past, crate::proofs::Blocks::none_past))]
-    pub fn remove(&mut self, number: usize) -> Option<Block>
-        ensures value { result ≡ block_at self.old number }
-        ensures gone { self.new ≡ slice_set self.old number None }
+    /// Makes the block with a number be gone.
+    #[tactic(auto, using(crate::proofs::Blocks::none_past))]
+    pub fn remove(&mut self, number: usize)
+        ensures { self.new ≡ slice_set self.old number None }
     {
-        if number >= self.blocks.len() {
-            return None;
+        if number >= self.slots.len() {
+            return;
         }
-        swap_in(&mut self.blocks, number, None)
+        let old = swap_in(&mut self.slots, number, Slot::gone());
+        drop(old);
     }
 
-    /// Changes a part of a block. There is a refusal where the block is not there.
-    #[tactic(auto, using(crate::proofs::Blocks::store_past, crate::proofs::Blocks::store_gone, crate::proofs::Blocks::store_there))]
-    pub fn store(&mut self, number: usize, path: &[usize], tree: CellTree) -> Result<(), StuckKind>
+    /// Changes a part of a block. Where memory is short, nothing is told of the blocks.
+    #[tactic(auto, using(crate::proofs::Blocks::store_past, crate::proofs::Blocks::store_there, crate::proofs::Blocks::store_none))]
+    pub fn store(
+        &mut self,
+        alloc: Global,
+        number: usize,
+        path: &[usize],
+        tree: CellTree,
+    ) -> Result<(), Halt>
         ensures stored { OnOk result (store self.old number path.now tree ≡ Got self.new) }
-        ensures refused { IfErr result (λ kind. store self.old number path.now tree ≡ Bad kind) }
+        ensures refused { IfErr result (λ halt. Refuses halt (store self.old number path.now tree)) }
     {
-        if number >= self.blocks.len() {
-            return Err(StuckKind::GoneUse);
+        if number >= self.slots.len() {
+            return Err(Halt::Stuck(StuckKind::GoneUse));
         }
-        match swap_in(&mut self.blocks, number, None) {
-            None => Err(StuckKind::GoneUse),
-            Some(block) => {
-                let changed = block.with_part(path, tree);
-                let gone = swap_in(&mut self.blocks, number, Some(changed));
-                drop(gone);
-                Ok(())
-            }
-        }
+        let old = swap_in(&mut self.slots, number, Slot::gone());
+        let changed = old.with_part(alloc, path, tree)?;
+        let gone = swap_in(&mut self.slots, number, changed);
+        drop(gone);
+        Ok(())
     }
 }
 
 /// Puts one in the place of another, which it gives.
-fn swap_in(list: &mut Vec<Option<Block>>, at: usize, new: Option<Block>) -> Option<Block>
+fn swap_in(list: &mut Vec<Slot>, at: usize, new: Slot) -> Slot
     requires { at < vec_len list.old }
     ensures old { slice_get list.old.items at ≡ Some result }
     ensures items { list.new.items ≡ slice_set list.old.items at new }
@@ -154,8 +180,19 @@ fn swap_in(list: &mut Vec<Option<Block>>, at: usize, new: Option<Block>) -> Opti
 }
 
 /// What a number stands for, where one was made.
-fn slot(blocks: &[Option<Block>], number: usize) -> Option<&Option<Block>>
-    ensures { option_copied result ≡ slice_get blocks.now number }
+fn slot(slots: &[Slot], number: usize) -> Option<&Slot>
+    ensures { option_copied result ≡ slice_get slots.now number }
 {
-    blocks.get(number)
+    slots.get(number)
+}
+
+/// Whether the block of an `int64_t` variable lies in a slot.
+fn is_number(slots: &[Slot], number: usize) -> bool
+    ensures int { result ≡ true → HoldsInt slots.now number }
+    ensures within { result ≡ true → number < length slots.now }
+{
+    match slots.get(number) {
+        Some(slot) => slot.is_number(),
+        None => false,
+    }
 }

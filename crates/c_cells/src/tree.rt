@@ -112,7 +112,7 @@ impl CellTree {
     }
 
     /// Stands for a child while it is taken out.
-    fn hole() -> CellTree {
+    pub fn hole() -> CellTree {
         CellTree::leaf(Cell {
             node: CellNode::Empty,
         })

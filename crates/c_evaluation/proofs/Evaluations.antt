@@ -9,9 +9,9 @@ use Rattle.c_meaning.specs.Types.{Step}
 use Rattle.c_meaning.specs.Values.{Value, as_int, is_zero, truth, int, binary, joined}
 use Rattle.c_meaning.specs.Evaluate.{View, Site, member, element, onward, value, place, load, name_value, read_place}
 use Rattle.c_tree.specs.Tree as t
-use Rattle.c_evaluation.specs.declared.halt.Halt.{Halt}
-use Rattle.c_evaluation.specs.declared.halt.Halt.TheVariants.{Stuck, Memory}
-use Rattle.c_evaluation.specs.Halts.{Tells}
+use Rattle.c_cells.specs.declared.halt.Halt.{Halt}
+use Rattle.c_cells.specs.declared.halt.Halt.TheVariants.{Stuck, Memory}
+use Rattle.c_cells.specs.Halts.{Tells}
 use Rattle.c_evaluation.specs.Evaluations.{onto_member, onto_element, decision, deciding, name_in}
 use Rattle.c_tree.specs.declared.operators.CBinary.{CBinary}
 use Rattle.c_tree.specs.declared.operators.CBinary.TheVariants as b

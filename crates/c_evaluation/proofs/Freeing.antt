@@ -9,9 +9,9 @@ use Rattle.c_meaning.specs.Answer.{Answer, Got, Bad, ◌>>=◌, when}
 use Rattle.c_meaning.specs.Types.{points_to_object}
 use Rattle.c_meaning.specs.Values.{Value, Typed, leaf}
 use Rattle.c_meaning.specs.Steps.{free_block, free_cell, free_value}
-use Rattle.c_evaluation.specs.declared.halt.Halt.{Halt}
-use Rattle.c_evaluation.specs.declared.halt.Halt.TheVariants.{Stuck, Memory}
-use Rattle.c_evaluation.specs.Halts.{Tells}
+use Rattle.c_cells.specs.declared.halt.Halt.{Halt}
+use Rattle.c_cells.specs.declared.halt.Halt.TheVariants.{Stuck, Memory}
+use Rattle.c_cells.specs.Halts.{Tells}
 use Rattle.c_evaluation.specs.Stores.{Frees}
 use Rattle.c_evaluation.specs.Values.{tree_in, type_in}
 use Rattle.c_evaluation.proofs.Binary.{bind_got, bind_bad}

@@ -12,5 +12,6 @@ pub mod Evaluations
 pub mod Taking
 pub mod Freeing
 pub mod Found
+pub mod Resolving
 pub mod Pointers
 pub mod Selected

@@ -6,7 +6,6 @@ use Rattle.std.specs.Str.{bytes_eq}
 use Rattle.c_tree.specs.declared.program.CVariable.{CVariable}
 use Rattle.c_tree.specs.declared.program.CPrototype.{CPrototype}
 use Rattle.c_tree.specs.declared.program.CFunction.{CFunction}
-use Rattle.c_tree.specs.declared.program.CMember.{CMember}
 use Rattle.c_tree.specs.declared.program.CDeclaration.{CDeclaration}
 use Rattle.c_tree.specs.declared.program.CDeclaration.TheVariants as d
 use Rattle.c_meaning.specs.Cells.{Name}

@@ -1,16 +1,16 @@
 -- Reading cells.
-use Rattle.std.proofs.Common.{◌≡◌, ℕ, List, Some, None, refl, ap, ◌∙◌}
+use Rattle.std.proofs.Common.{◌≡◌, ℕ, List, [], ◌∷◌, Some, None, refl, ap, ◌∙◌}
 use Rattle.c_tree.specs.Tree as t
 use Rattle.c_tree.specs.Tree.{ObjectType}
 use Rattle.c_meaning.specs.declared.StuckKind.{StuckKind}
 use Rattle.c_meaning.specs.declared.StuckKind.TheVariants as k
-use Rattle.c_meaning.specs.Cells.{Pointer, Block, Tree, Leaf, part}
+use Rattle.c_meaning.specs.Cells.{Cell, Pointer, Block, Tree, Leaf, child, of_part, part}
 use Rattle.c_meaning.specs.Answer.{Got, Bad, ◌>>=◌, or_bad}
 use Rattle.c_meaning.specs.Values.{Value, Typed, leaf, value_of}
 use Rattle.c_meaning.specs.Evaluate.{View, Site, At, read_cell, read_as, root_block, root_number, load, follow_cell, follow, pointer_to, address}
 use Rattle.c_meaning.specs.Types.{Plain, Signature, Of, AnyPointer, Routine}
 use Rattle.c_evaluation.specs.Values.{type_in}
-use Rattle.c_evaluation.specs.Scopes.{part_value, follow_leaf}
+use Rattle.c_evaluation.specs.Scopes.{part_value, tree_value, follow_leaf}
 use Rattle.c_evaluation.specs.Types.{target_of}
 
 module _ (v : View) (of : ObjectType) (n : ℕ) (path : List ℕ) where
@@ -23,13 +23,22 @@ module _ (v : View) (of : ObjectType) (n : ℕ) (path : List ℕ) where
   read_there b h = ap (λ a. a >>= (λ block. Got (value_of of (Leaf (Pointer n path))))) h
 
 module _ (v : View) (at : Site) where
-  pub part_none : (block : Block) → part at.path block.tree ≡ None → part_value v at block ≡ Bad k.Mismatch
+  pub part_none : (whole : Tree) → part at.path whole ≡ None → tree_value v at whole ≡ Bad k.Mismatch
   unfolding or_bad ◌>>=◌
-  part_none block h = ap (λ o. or_bad k.Mismatch o >>= read_as v at.of) h
+  part_none whole h = ap (λ o. or_bad k.Mismatch o >>= read_as v at.of) h
 
-  pub part_some : (block : Block) (tree : Tree) → part at.path block.tree ≡ Some tree → part_value v at block ≡ read_as v at.of tree
+  pub part_some : (whole tree : Tree) → part at.path whole ≡ Some tree → tree_value v at whole ≡ read_as v at.of tree
   unfolding or_bad ◌>>=◌
-  part_some block tree h = ap (λ o. or_bad k.Mismatch o >>= read_as v at.of) h
+  part_some whole tree h = ap (λ o. or_bad k.Mismatch o >>= read_as v at.of) h
+
+  -- a scalar has no parts
+  pub whole_int : (cell : Cell) → at.path ≡ [] → tree_value v at (Leaf cell) ≡ read_as v at.of (Leaf cell)
+  unfolding part or_bad ◌>>=◌
+  whole_int cell h = ap (λ path. or_bad k.Mismatch (part path (Leaf cell)) >>= read_as v at.of) h
+
+  pub no_part_of_int : (cell : Cell) (i : ℕ) (rest : List ℕ) → at.path ≡ i ∷ rest → tree_value v at (Leaf cell) ≡ Bad k.Mismatch
+  unfolding part child of_part or_bad ◌>>=◌
+  no_part_of_int cell i rest h = ap (λ path. or_bad k.Mismatch (part path (Leaf cell)) >>= read_as v at.of) h
 
   pub load_gone : (kind : StuckKind) → root_block v at.root ≡ Bad kind → load v at ≡ Bad kind
   unfolding load ◌>>=◌

@@ -1,5 +1,5 @@
 -- What is selected of a place.
-use Rattle.std.proofs.Common.{◌≡◌, ◌≢◌, ◌<◌, ◌≤◌, List, [], ◌∷◌, Option, None, length, get_or, refl, sym, ap, ◌∙◌, arith}
+use Rattle.std.proofs.Common.{◌≡◌, ◌≢◌, ◌<◌, ◌≤◌, List, [], ◌∷◌, None, length, get_or, refl, sym, ap, ◌∙◌, arith}
 use Rattle.c_tree.specs.Tree as t
 use Rattle.c_tree.specs.expressions.View.{select, selected}
 use Rattle.c_tree.specs.declared.expr.CSelector.{CSelector}

@@ -17,10 +17,10 @@ use Rattle.c_meaning.specs.Values.{Value, Typed, as_int, is_zero, byte_of, conve
 use Rattle.c_meaning.specs.Evaluate.{Root, Named, At, root_number}
 use Rattle.c_meaning.specs.States.{Names, view, number_of, store, store_named}
 use Rattle.c_meaning.specs.Steps.{put_root}
-use Rattle.c_evaluation.specs.declared.halt.Halt.{Halt}
-use Rattle.c_evaluation.specs.declared.halt.Halt.TheVariants.{Stuck, Memory}
+use Rattle.c_cells.specs.declared.halt.Halt.{Halt}
+use Rattle.c_cells.specs.declared.halt.Halt.TheVariants.{Stuck, Memory}
 use Rattle.c_evaluation.specs.declared.store.Store.{Store}
-use Rattle.c_evaluation.specs.Halts.{Tells}
+use Rattle.c_cells.specs.Halts.{Tells}
 use Rattle.c_evaluation.specs.Values.{tree_in, type_in}
 use Rattle.c_evaluation.specs.Stores.{Stores, byte_of_number, byte_number, truth_in, byte_taken, alike_taken as alike_given}
 use Rattle.c_evaluation.specs.Types.{is_byte}

@@ -1,4 +1,3 @@
-pub mod Halts
 pub mod Types
 pub mod Declarations
 pub mod Values
@@ -7,3 +6,4 @@ pub mod Scopes
 pub mod Casts
 pub mod Evaluations
 pub mod Stores
+pub mod Numbers

@@ -1,7 +1,7 @@
 -- What evaluation sees, and the places that it reckons with.
 use Rattle.std.specs.Prelude.{◌+◌, ◌<◌, ◌^◌, ◌++◌, length}
 use Rattle.c_meaning.specs.declared.StuckKind.TheVariants as k
-use Rattle.c_meaning.specs.Cells.{Block, part}
+use Rattle.c_meaning.specs.Cells.{Tree, Block, part}
 use Rattle.c_meaning.specs.Answer.{Answer, or_bad, ◌>>=◌}
 use Rattle.c_meaning.specs.Values.{Value, leaf}
 use Rattle.c_meaning.specs.Types as t
@@ -39,9 +39,12 @@ site_of s = record { root = root_of s.root; path = s.path; of = place_type_of s.
 abbrev pub step_of : Step → t.Step
 step_of s = record { child = s.child; of = place_type_of s.of }
 
--- the value of a part of a block
+-- the value of a part of a tree, and of a block
+abbrev pub tree_value : View → e.Site → Tree → Answer Value
+tree_value v at tree = or_bad k.Mismatch (part at.path tree) >>= read_as v at.of
+
 abbrev pub part_value : View → e.Site → Block → Answer Value
-part_value v at block = or_bad k.Mismatch (part at.path block.tree) >>= read_as v at.of
+part_value v at block = tree_value v at block.tree
 
 -- the target of a value that points to a type
 abbrev pub follow_leaf : View → ObjectType → Value → Answer e.Site

@@ -6,14 +6,14 @@ use Rattle.c_meaning.specs.Steps.{put_value, free_value}
 use Rattle.c_tree.specs.Tree.{ObjectType}
 use Rattle.c_tree.specs.declared.program.CDeclaration.{CDeclaration}
 use Rattle.c_meaning.specs.declared.StuckKind.TheVariants as k
-use Rattle.c_meaning.specs.Cells.{Tree, Leaf, Pointer, Block, Blocks, block_at}
+use Rattle.c_meaning.specs.Cells.{Tree, Leaf, Pointer, Blocks}
 use Rattle.c_meaning.specs.Answer.{Answer, Got, Bad, ◌>>=◌, when}
 use Rattle.c_meaning.specs.Types.{Of, alike}
 use Rattle.c_meaning.specs.Values.{Value, Typed, int, as_int, is_zero, byte_of}
 use Rattle.c_meaning.specs.States as m
 use Rattle.c_evaluation.specs.Values.{tree_in, type_in}
-use Rattle.c_evaluation.specs.declared.halt.Halt.{Halt}
-use Rattle.c_evaluation.specs.declared.halt.Halt.TheVariants.{Stuck, Memory}
+use Rattle.c_cells.specs.declared.halt.Halt.{Halt}
+use Rattle.c_cells.specs.declared.halt.Halt.TheVariants.{Stuck, Memory}
 use Rattle.c_evaluation.specs.declared.store.Store.{Store}
 
 -- the blocks after the store are these
@@ -33,10 +33,6 @@ abbrev pub Finds : Result (Unit {0}) Halt → Answer Site → Type 0
 Finds (Ok done) answer = (site : Site) × (answer ≡ Got site)
 Finds (Err (Stuck kind)) answer = answer ≡ Bad kind
 Finds (Err Memory) answer = Unit {0}
-
--- the block with this number is there, and of `int64_t`
-abbrev pub IsIntBlock : Option ℕ → Blocks → ℕ → Type 0
-IsIntBlock number blocks n = (b : Block) × (number ≡ Some n) × (block_at blocks n ≡ Some b) × (b.of ≡ t.Int)
 
 -- ---- statements
 

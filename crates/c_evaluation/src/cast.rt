@@ -9,18 +9,19 @@ ghost use Rattle.c_evaluation.specs.Types.{object_of, place_type_of, value_type_
 ghost use Rattle.c_evaluation.specs.Values.{value_of, content_of};
 ghost use Rattle.c_evaluation.specs.Scopes.{view_at};
 ghost use Rattle.c_evaluation.specs.Casts.{is_number, cast_cell};
-ghost use Rattle.c_evaluation.specs.Halts.{said, Tells};
+ghost use Rattle.c_cells.specs.Slots.{found_block};
+ghost use Rattle.c_cells.specs.Halts.{said, Tells};
 
-use crate::halt::Halt;
 use crate::lookup::members_of;
 use crate::place::member_type;
-use crate::read::block_of;
+use crate::read::{block_of, found_type};
 use crate::scope::Scope;
 use crate::types::{Base, Layer, Object, PlaceType, ValueType, points_to_object, same_type};
 use crate::value::{Content, Value, held, type_of};
 use c_cells::Path;
 use c_cells::cell::{Cell, CellNode, copied};
-use c_cells::memory::Block;
+use c_cells::halt::Halt;
+use c_cells::slot::Found;
 use c_meaning::StuckKind;
 use c_tree::Name;
 use c_tree::operators::CCast;
@@ -85,10 +86,10 @@ fn part_type<'a>(scope: &Scope<'a>, path: &[usize], of: PlaceType<'a>) -> Option
 
 /// Whether the part at a path of a block has the type.
 #[tactic(auto, unfolding(c_meaning::specs::Evaluate::holds_type, c_meaning::specs::Evaluate::is_plain))]
-fn holds_type(scope: &Scope, of: Object, path: &[usize], block: &Block) -> bool
-    ensures { result ≡ m.holds_type scope.now.program.now.declarations (object_of of.entry) path.now block.now }
+fn holds_type(scope: &Scope, of: Object, path: &[usize], block: Found) -> bool
+    ensures { result ≡ m.holds_type scope.now.program.now.declarations (object_of of.entry) path.now (found_block block.entry) }
 {
-    match part_type(scope, path, PlaceType::Plain(Object::written(&block.of))) {
+    match part_type(scope, path, PlaceType::Plain(found_type(block))) {
         Some(PlaceType::Plain(found)) => same_type(of, found),
         _ => false,
     }

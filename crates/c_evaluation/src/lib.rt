@@ -6,7 +6,7 @@
 
 mod cast;
 pub mod evaluate;
-pub mod halt;
+pub mod function_names;
 pub mod lookup;
 pub mod numbers;
 mod operate;

@@ -5,12 +5,13 @@ ghost use Rattle.c_meaning.specs.States as m;
 ghost use Rattle.c_meaning.specs.Types as y;
 ghost use Rattle.name_tables.specs.Places.{first_from, prototype_name, function_name, struct_name, typedef_name};
 ghost use Rattle.c_evaluation.specs.Types.{signature_of, typedef_signature};
+ghost use Rattle.c_cells.specs.Slots.{found_block};
 ghost use Rattle.c_evaluation.specs.Scopes.{names_at, HasRoom};
 ghost use Rattle.c_evaluation.specs.Declarations.{members_in, typedef_in};
 
 use crate::scope::Scope;
 use crate::types::Signature;
-use c_cells::memory::Block;
+use c_cells::slot::Found;
 use c_tree::Name;
 use c_tree::program::{CDeclaration, CMember, CTypedef, CVariable};
 
@@ -54,9 +55,9 @@ pub fn number_of(scope: &Scope, name: &Name) -> Option<usize>
 
 /// The block of a variable.
 #[tactic(auto, unfolding(c_meaning::specs::States::numbered))]
-pub fn named<'a>(scope: &Scope<'a>, name: &Name) -> Option<&'a Block>
+pub fn named<'a>(scope: &Scope<'a>, name: &Name) -> Option<Found<'a>>
     requires { HasRoom scope.now }
-    ensures { option_copied result ≡ m.numbered scope.now.memory.now (m.number_of scope.now.program.now (names_at scope.now) name.now) }
+    ensures { option_map found_block result ≡ m.numbered scope.now.memory.now (m.number_of scope.now.program.now (names_at scope.now) name.now) }
 {
     match number_of(scope, name) {
         Some(number) => scope.memory.get(number),

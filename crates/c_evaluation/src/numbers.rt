@@ -1,96 +1,185 @@
-//! Numbers of `int64_t` that are found without memory. Where one is not found so, the value is
-//! evaluated step by step.
-ghost use Rattle.std.specs.Prelude.{◌≡◌, List, true, IfSome};
+//! Numbers of `int64_t` whose names are resolved before the program runs. Where such a number is
+//! not found, the expression is evaluated step by step.
+ghost use Rattle.std.specs.Prelude.{◌≡◌, List, Some, true, false, pos, IfSome, IfOk};
 ghost use Rattle.c_tree.specs.Tree as t;
 ghost use Rattle.c_tree.specs.declared.program.CDeclaration.{CDeclaration};
 ghost use Rattle.c_meaning.specs.Answer.{Got};
 ghost use Rattle.c_meaning.specs.Cells as c;
-ghost use Rattle.c_meaning.specs.Cells.{Leaf};
-ghost use Rattle.c_meaning.specs.Evaluate as m;
-ghost use Rattle.c_meaning.specs.Evaluate.{View};
+ghost use Rattle.c_meaning.specs.Cells.{block_at};
+ghost use Rattle.c_meaning.specs.States.{global_from};
 ghost use Rattle.c_meaning.specs.Values as w;
-ghost use Rattle.c_evaluation.specs.Halts.{Tells};
-ghost use Rattle.c_evaluation.specs.Scopes.{view_at, HasRoom};
-ghost use Rattle.c_evaluation.specs.Values.{value_of as worth};
+ghost use Rattle.c_cells.specs.Slots.{int_block};
+ghost use Rattle.c_evaluation.specs.Numbers.{variables_of, place_number as number_placed, NamesVariable, IsVariable, Resolves, Evaluates, Puts, Chooses};
 
-use crate::evaluate::{single_name, value_of};
-use crate::halt::Halt;
-use crate::lookup::named;
-use crate::scope::Scope;
-use crate::value::Value;
-use c_cells::cell::CellNode;
-use c_cells::memory::Block;
-use c_cells::tree::{CellTree, CellTreeNode};
+use crate::evaluate::single_name;
+use crate::function_names::Names;
+use crate::lookup::variable_at;
+use crate::operate::is_zero;
+use c_cells::memory::Memory;
 use c_tree::Name;
 use c_tree::expr::{CExpr, CExprNode, CPlace};
 use c_tree::operators::CBinary;
-use c_tree::types::{CBaseType, CType};
+use std::alloc::{AllocError, Global};
 
-/// Whether it is `int64_t`.
-pub fn is_int(of: &CType) -> bool
-    ensures { result ≡ true → of.now ≡ t.Int }
-{
-    match (&of.base, of.stars) {
-        (CBaseType::Int, 0) => true,
-        _ => false,
-    }
+/// A variable: its place among the parameters and locals of its function, or the number of a global.
+#[derive(Clone, Copy, Debug)]
+pub enum Variable {
+    Own(usize),
+    Global(usize),
 }
 
-fn int_leaf(tree: &CellTree) -> Option<i64>
-    ensures { IfSome result (λ z. tree.now ≡ Leaf (c.Int z)) }
+/// An expression over numbers.
+#[derive(Drop)]
+pub enum Number {
+    Variable(Variable),
+    Written(i64),
+    Two(CBinary, Box<Number>, Box<Number>),
+}
+
+// ---- names
+
+fn global_named(names: &Names, name: &Name) -> Option<usize>
+    ensures { result ≡ global_from 0 name.now names.now.program.now.globals }
 {
-    match &tree.node {
-        CellTreeNode::Leaf(cell) => match &cell.node {
-            CellNode::Int(z) => Some(*z),
-            _ => None,
+    names.tables.globals.get(name)
+}
+
+/// The variable that a name names.
+#[tactic(auto, using(crate::proofs::Resolving::own_parameter, crate::proofs::Resolving::own_local, crate::proofs::Resolving::own_global))]
+pub fn variable_named(names: &Names, name: &Name) -> Option<Variable>
+    ensures { IfSome result (λ v. NamesVariable names.now.program.now (variables_of names.now) v name.now) }
+{
+    match variable_at(names.parameters, name) {
+        Some(at) => Some(Variable::Own(at)),
+        None => match variable_at(names.locals, name) {
+            Some(at) => Some(Variable::Own(names.parameters.len().checked_add(at)?)),
+            None => match global_named(names, name) {
+                Some(at) => Some(Variable::Global(at)),
+                None => None,
+            },
         },
-        CellTreeNode::Branch(_) => None,
     }
 }
 
-/// The number in a block.
-#[tactic(auto, using(crate::proofs::Found::read_int))]
-fn number_in_block(block: &Block) -> Option<i64>
-    ensures { (v : View) → IfSome result (λ z. m.read_tree v block.now.of block.now.tree ≡ Got (w.int z)) }
-{
-    if is_int(&block.of) {
-        int_leaf(&block.tree)
-    } else {
-        None
-    }
-}
-
-/// The number of a variable.
-fn number_of_variable(scope: &Scope, name: &Name) -> Option<i64>
-    requires { HasRoom scope.now }
-    ensures { IfSome result (λ z. m.name_value (view_at scope.now) name.now ((view_at scope.now).named name.now) ≡ Got (w.int z)) }
-{
-    match named(scope, name) {
-        Some(block) => number_in_block(block),
-        None => None,
-    }
-}
-
-/// The number at a place that is a name.
-fn number_at(scope: &Scope, place: &CPlace) -> Option<i64>
-    requires { HasRoom scope.now }
-    ensures { IfSome result (λ z. m.value (view_at scope.now) (t.Read place.now) ≡ Got (w.int z)) }
+/// The variable that a place is.
+pub fn variable_placed(names: &Names, place: &CPlace) -> Option<Variable>
+    ensures { IfSome result (λ v. IsVariable names.now.program.now (variables_of names.now) v place.now) }
 {
     match single_name(place) {
-        Some(name) => number_of_variable(scope, name),
+        Some(name) => variable_named(names, name),
         None => None,
     }
 }
 
 /// A number in the text.
-#[tactic(auto, using(crate::proofs::Found::written))]
 fn small_number(n: u64) -> Option<i64>
-    ensures { (v : View) → IfSome result (λ z. m.value v (t.Number n) ≡ Got (w.int z)) }
+    ensures { IfSome result (λ z. pos n ≡ z) }
 {
     if n > i64::MAX as u64 {
         None
     } else {
         Some(n as i64)
+    }
+}
+
+/// The number for which an expression stands, where it has one.
+#[cycle(resolved)]
+pub fn resolved(alloc: Global, names: &Names, e: &CExpr) -> Result<Option<Number>, AllocError>
+    ensures { IfOk result (λ o. IfSome o (λ n. Resolves names.now.program.now (variables_of names.now) n e.now)) }
+{
+    match &e.node {
+        CExprNode::Read(place) => Ok(match variable_placed(names, place.get()) {
+            Some(variable) => Some(Number::Variable(variable)),
+            None => None,
+        }),
+        CExprNode::Number(n) => Ok(match small_number(*n) {
+            Some(z) => Some(Number::Written(z)),
+            None => None,
+        }),
+        CExprNode::Binary(op, a, b) => resolved_two(alloc, names, *op, a.get(), b.get()),
+        _ => Ok(None),
+    }
+}
+
+#[cycle(resolved)]
+fn resolved_two(
+    alloc: Global,
+    names: &Names,
+    op: CBinary,
+    a: &CExpr,
+    b: &CExpr,
+) -> Result<Option<Number>, AllocError>
+    ensures { IfOk result (λ o. IfSome o (λ n. Resolves names.now.program.now (variables_of names.now) n (t.Binary op a.now b.now))) }
+{
+    match (resolved(alloc, names, a)?, resolved(alloc, names, b)?) {
+        (Some(x), Some(y)) => {
+            let left = Box::new(alloc, x)?;
+            let right = Box::new(alloc, y)?;
+            Ok(Some(Number::Two(op, left, right)))
+        }
+        _ => Ok(None),
+    }
+}
+
+// ---- values
+
+/// The number of a variable's block, where those of its function begin at `base`.
+pub fn place_number(base: usize, variable: Variable) -> Option<usize>
+    ensures { IfSome result (λ n. n ≡ number_placed base variable) }
+{
+    match variable {
+        Variable::Own(at) => base.checked_add(at),
+        Variable::Global(at) => Some(at),
+    }
+}
+
+/// The number that a variable holds.
+fn number_held(memory: &Memory, base: usize, variable: Variable) -> Option<i64>
+    ensures { IfSome result (λ z. block_at memory.now (number_placed base variable) ≡ Some (int_block (c.Int z))) }
+{
+    match place_number(base, variable) {
+        Some(number) => memory.get_number(number),
+        None => None,
+    }
+}
+
+/// The number of an expression, where it is found so.
+pub fn evaluated(memory: &Memory, base: usize, number: &Number) -> Option<i64>
+    ensures { IfSome result (λ z. Evaluates memory.now base number.now z) }
+{
+    match number {
+        Number::Variable(variable) => number_held(memory, base, *variable),
+        Number::Written(z) => Some(*z),
+        Number::Two(op, a, b) => {
+            match (evaluated(memory, base, a), evaluated(memory, base, b)) {
+                (Some(x), Some(y)) => operation(*op, x, y),
+                _ => None,
+            }
+        }
+    }
+}
+/// `variable = number;`, where both are found so. Else nothing is done, and the answer is false.
+#[tactic(auto, using(crate::proofs::Resolving::put))]
+pub fn put_number(memory: &mut Memory, base: usize, variable: Variable, number: &Number) -> bool
+    ensures stored { result ≡ true → Puts memory.old memory.new base variable number.now }
+    ensures same { result ≡ false → memory.new ≡ memory.old }
+{
+    match (
+        place_number(base, variable),
+        evaluated(memory, base, number),
+    ) {
+        (Some(place), Some(z)) => memory.set_number(place, z),
+        _ => false,
+    }
+}
+
+/// What a test of a number chooses, where the number is found.
+pub fn tested(memory: &Memory, base: usize, number: &Number) -> Option<bool>
+    ensures { IfSome result (λ b. Chooses memory.now base number.now b) }
+{
+    match evaluated(memory, base, number) {
+        Some(z) => Some(!is_zero(z)),
+        None => None,
     }
 }
 
@@ -145,41 +234,5 @@ fn operation(op: CBinary, x: i64, y: i64) -> Option<i64>
         CBinary::Equal => one_if(is_same(x, y)),
         CBinary::NotEqual => one_if(!is_same(x, y)),
         _ => None,
-    }
-}
-
-/// The number of an expression, where it is found so.
-#[cycle(number)]
-pub fn number_in(scope: &Scope, e: &CExpr) -> Option<i64>
-    requires { HasRoom scope.now }
-    ensures { IfSome result (λ z. m.value (view_at scope.now) e.now ≡ Got (w.int z)) }
-{
-    match &e.node {
-        CExprNode::Read(place) => number_at(scope, place.get()),
-        CExprNode::Number(n) => small_number(*n),
-        CExprNode::Binary(op, a, b) => number_of_two(scope, *op, a.get(), b.get()),
-        _ => None,
-    }
-}
-
-#[cycle(number)]
-fn number_of_two(scope: &Scope, op: CBinary, a: &CExpr, b: &CExpr) -> Option<i64>
-    requires { HasRoom scope.now }
-    ensures { IfSome result (λ z. m.value (view_at scope.now) (t.Binary op a.now b.now) ≡ Got (w.int z)) }
-{
-    match (number_in(scope, a), number_in(scope, b)) {
-        (Some(x), Some(y)) => operation(op, x, y),
-        _ => None,
-    }
-}
-
-/// The value of an expression.
-pub fn value_in<'a>(scope: &Scope<'a>, e: &'a CExpr) -> Result<Value<'a>, Halt>
-    requires { HasRoom scope.now }
-    ensures { Tells worth result (m.value (view_at scope.now) e.now) }
-{
-    match number_in(scope, e) {
-        Some(z) => Ok(Value::Int(z)),
-        None => value_of(scope, e),
     }
 }

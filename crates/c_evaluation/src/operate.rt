@@ -2,7 +2,7 @@
 ghost use Rattle.std.specs.Prelude.{◌≡◌, ◌<◌, ◌+ℤ◌, ◌-ℤ◌, ◌*ℤ◌, int_div, int_rem, neg_ℤ, if◌then◌else◌};
 ghost use Rattle.c_meaning.specs.Cells.{Word};
 ghost use Rattle.c_meaning.specs.Values as m;
-ghost use Rattle.c_evaluation.specs.Halts.{said};
+ghost use Rattle.c_cells.specs.Halts.{said};
 ghost use Rattle.c_evaluation.specs.Values.{value_of, content_of};
 ghost use Rattle.c_evaluation.specs.Operators.{of_ints, of_words, of_shift, shift_of};
 

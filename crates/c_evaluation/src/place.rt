@@ -6,7 +6,7 @@ ghost use Rattle.c_tree.specs.Tree.{Struct};
 ghost use Rattle.c_meaning.specs.Types as t;
 ghost use Rattle.c_evaluation.specs.Types.{place_type_of};
 ghost use Rattle.c_evaluation.specs.Scopes.{site_of, step_of};
-ghost use Rattle.c_evaluation.specs.Halts.{said};
+ghost use Rattle.c_cells.specs.Halts.{said};
 
 use crate::lookup::members_of;
 use crate::scope::Scope;

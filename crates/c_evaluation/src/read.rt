@@ -6,11 +6,11 @@ ghost use Rattle.c_meaning.specs.States as g;
 ghost use Rattle.c_meaning.specs.Evaluate as m;
 ghost use Rattle.c_meaning.specs.Values as w;
 ghost use Rattle.c_evaluation.specs.Types.{object_of, place_type_of};
-ghost use Rattle.c_evaluation.specs.Values.{value_of, content_of, now_of};
-ghost use Rattle.c_evaluation.specs.Scopes.{view_at, root_of, site_of, part_value, follow_leaf, HasRoom};
-ghost use Rattle.c_evaluation.specs.Halts.{said, Tells};
+ghost use Rattle.c_evaluation.specs.Values.{value_of, content_of};
+ghost use Rattle.c_evaluation.specs.Scopes.{view_at, root_of, site_of, part_value, tree_value, follow_leaf, HasRoom};
+ghost use Rattle.c_cells.specs.Halts.{said, Tells};
+ghost use Rattle.c_cells.specs.Slots.{found_block, int_cell};
 
-use crate::halt::Halt;
 use crate::lookup::{named, number_of, signature};
 use crate::place::{Root, Site};
 use crate::scope::Scope;
@@ -18,16 +18,27 @@ use crate::types::{Layer, Object, PlaceType, ValueType};
 use crate::value::{Content, Value, held, type_of};
 use c_cells::Path;
 use c_cells::cell::{Cell, CellNode, copied};
-use c_cells::memory::Block;
+use c_cells::halt::Halt;
+use c_cells::slot::{Found, int_cell};
 use c_cells::tree::{CellTree, CellTreeNode};
 use c_meaning::StuckKind;
 use c_tree::Name;
 use tree_lists::Items;
 
+/// The type of a block.
+pub fn found_type<'a>(block: Found<'a>) -> Object<'a>
+    ensures { object_of result ≡ (found_block block.entry).of }
+{
+    match block {
+        Found::Int(_) => Object::int(),
+        Found::Block(block) => Object::written(&block.of),
+    }
+}
+
 /// The block with a number.
 #[tactic(auto, unfolding(c_meaning::specs::States::view, c_meaning::specs::Answer::or_bad))]
-pub fn block_of<'a>(scope: &Scope<'a>, number: usize) -> Result<&'a Block, StuckKind>
-    ensures { said now_of result ≡ or_bad StuckKind.GoneUse ((view_at scope.now).block number) }
+pub fn block_of<'a>(scope: &Scope<'a>, number: usize) -> Result<Found<'a>, StuckKind>
+    ensures { said found_block result ≡ or_bad StuckKind.GoneUse ((view_at scope.now).block number) }
 {
     match scope.memory.get(number) {
         Some(block) => Ok(block),
@@ -94,9 +105,9 @@ fn read_as<'a>(scope: &Scope<'a>, of: PlaceType<'a>, tree: &'a CellTree) -> Resu
 
 /// The block in which a place is.
 #[tactic(auto, unfolding(c_meaning::specs::States::view, c_meaning::specs::Answer::or_bad, c_meaning::specs::Evaluate::root_block))]
-fn root_block<'a>(scope: &Scope<'a>, root: Root<'a>) -> Result<&'a Block, StuckKind>
+fn root_block<'a>(scope: &Scope<'a>, root: Root<'a>) -> Result<Found<'a>, StuckKind>
     requires { HasRoom scope.now }
-    ensures { said now_of result ≡ m.root_block (view_at scope.now) (root_of root.entry) }
+    ensures { said found_block result ≡ m.root_block (view_at scope.now) (root_of root.entry) }
 {
     match root {
         Root::Named(name) => match named(scope, name) {
@@ -126,13 +137,59 @@ pub fn root_number(scope: &Scope, root: Root) -> Result<usize, StuckKind>
 }
 
 /// The value of the part of a block.
-#[tactic(auto, using(crate::proofs::Reading::part_none, crate::proofs::Reading::part_some))]
-fn load_part<'a>(scope: &Scope<'a>, site: &Site<'a>, block: &'a Block) -> Result<Value<'a>, Halt>
-    ensures { Tells value_of result (part_value (view_at scope.now) (site_of site.now) block.now) }
+fn load_part<'a>(scope: &Scope<'a>, site: &Site<'a>, block: Found<'a>) -> Result<Value<'a>, Halt>
+    ensures { Tells value_of result (part_value (view_at scope.now) (site_of site.now) (found_block block.entry)) }
 {
-    match block.tree.part(site.path.as_slice()) {
+    match block {
+        Found::Int(number) => load_int(scope, site, number),
+        Found::Block(block) => load_tree(scope, site, &block.tree),
+    }
+}
+
+/// The same where the block has this tree.
+#[tactic(auto, using(crate::proofs::Reading::part_none, crate::proofs::Reading::part_some))]
+fn load_tree<'a>(scope: &Scope<'a>, site: &Site<'a>, tree: &'a CellTree) -> Result<Value<'a>, Halt>
+    ensures { Tells value_of result (tree_value (view_at scope.now) (site_of site.now) tree.now) }
+{
+    match tree.part(site.path.as_slice()) {
         Some(tree) => read_as(scope, site.of, tree),
         None => Err(Halt::Stuck(StuckKind::Mismatch)),
+    }
+}
+
+/// The same in an `int64_t` variable, which has no parts.
+#[tactic(auto, using(crate::proofs::Reading::whole_int, crate::proofs::Reading::no_part_of_int))]
+fn load_int<'a>(scope: &Scope<'a>, site: &Site<'a>, number: Option<i64>) -> Result<Value<'a>, Halt>
+    ensures { Tells value_of result (tree_value (view_at scope.now) (site_of site.now) (Leaf (int_cell number))) }
+{
+    match site.path.as_slice() {
+        [] => read_int_as(scope, site.of, number),
+        [_, ..] => Err(Halt::Stuck(StuckKind::Mismatch)),
+    }
+}
+
+#[tactic(auto, unfolding(c_meaning::specs::Evaluate::read_as))]
+fn read_int_as<'a>(
+    scope: &Scope<'a>,
+    of: PlaceType<'a>,
+    number: Option<i64>,
+) -> Result<Value<'a>, Halt>
+    ensures { Tells value_of result (m.read_as (view_at scope.now) (place_type_of of.entry) (Leaf (int_cell number))) }
+{
+    match of {
+        PlaceType::Plain(of) => read_int(scope, of, number),
+        PlaceType::Array(_, _) => Err(Halt::Stuck(StuckKind::Mismatch)),
+    }
+}
+
+/// The value of an `int64_t` variable.
+#[tactic(auto, using(crate::proofs::Leaves::the_leaf, crate::proofs::Binary::bind_got), unfolding(c_meaning::specs::Evaluate::read_tree, c_meaning::specs::Values::value_of))]
+fn read_int<'a>(scope: &Scope<'a>, of: Object<'a>, number: Option<i64>) -> Result<Value<'a>, Halt>
+    ensures { Tells value_of result (m.read_tree (view_at scope.now) (object_of of.entry) (Leaf (int_cell number))) }
+{
+    match of.layer() {
+        Layer::Struct(_) => Ok(Value::Scalar(ValueType::Of(of), int_cell(number))),
+        _ => read_cell(scope, of, &int_cell(number)),
     }
 }
 
@@ -252,7 +309,8 @@ pub fn name_value<'a>(scope: &Scope<'a>, name: &Name) -> Result<Value<'a>, Halt>
     ensures { Tells value_of result (m.name_value (view_at scope.now) name.now ((view_at scope.now).named name.now)) }
 {
     match named(scope, name) {
-        Some(block) => read_tree(scope, Object::written(&block.of), &block.tree),
+        Some(Found::Int(number)) => read_int(scope, Object::int(), number),
+        Some(Found::Block(block)) => read_tree(scope, Object::written(&block.of), &block.tree),
         None => function_value(scope, name),
     }
 }
@@ -267,7 +325,7 @@ pub fn variable<'a>(scope: &Scope<'a>, name: &'a Name) -> Result<Site<'a>, Stuck
         Some(block) => Ok(Site {
             root: Root::Named(name),
             path: Items::new(scope.alloc),
-            of: PlaceType::Plain(Object::written(&block.of)),
+            of: PlaceType::Plain(found_type(block)),
         }),
         None => match signature(scope, name) {
             Some(_) => Err(StuckKind::Mismatch),

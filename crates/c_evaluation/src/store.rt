@@ -1,24 +1,21 @@
 //! What places take of values, and where it goes.
-ghost use Rattle.std.specs.Prelude.{◌≡◌, ℤ, [], IfOk, IfSome, length};
+ghost use Rattle.std.specs.Prelude.{◌≡◌, [], IfOk, length};
 ghost use Rattle.c_meaning.specs.Values as w;
 ghost use Rattle.c_meaning.specs.Evaluate as v;
-ghost use Rattle.c_meaning.specs.States as g;
 ghost use Rattle.c_meaning.specs.Steps as m;
 ghost use Rattle.c_evaluation.specs.Types.{object_of, place_type_of};
 ghost use Rattle.c_cells.specs.Views.{cell_of};
-ghost use Rattle.c_meaning.specs.Cells.{Leaf, Int, Pointer, block_at};
+ghost use Rattle.c_meaning.specs.Cells.{Leaf, Pointer, block_at};
+ghost use Rattle.c_cells.specs.Slots.{found_block};
 ghost use Rattle.c_tree.specs.Tree as t;
 ghost use Rattle.c_meaning.specs.Types.{Of};
 ghost use Rattle.c_meaning.specs.Answer.{Got};
 ghost use Rattle.c_evaluation.specs.Values.{value_of as worth, content_of, tree_in};
-ghost use Rattle.c_evaluation.specs.Scopes.{names_at, view_at, site_of, HasRoom};
-ghost use Rattle.c_evaluation.specs.Halts.{said, Tells};
-ghost use Rattle.c_evaluation.specs.Stores.{Stores, Finds, IsIntBlock, next_number, byte_stored, address_stored, byte_put, byte_number, byte_of_number, chosen, truth_in, Frees, freed_of, byte_taken as byte_given, alike_taken as alike_given};
+ghost use Rattle.c_evaluation.specs.Scopes.{view_at, site_of, HasRoom};
+ghost use Rattle.c_cells.specs.Halts.{said, Tells};
+ghost use Rattle.c_evaluation.specs.Stores.{Stores, Finds, next_number, byte_stored, address_stored, byte_put, byte_number, byte_of_number, chosen, truth_in, Frees, freed_of, byte_taken as byte_given, alike_taken as alike_given};
 
-use crate::evaluate::{place_of, single_name, value_of};
-use crate::halt::Halt;
-use crate::lookup::number_of;
-use crate::numbers::{is_int, number_in, value_in};
+use crate::evaluate::{place_of, value_of};
 use crate::operate::is_zero;
 use crate::place::Site;
 use crate::read::root_number;
@@ -27,10 +24,10 @@ use crate::types::{Base, Object, PlaceType, ValueType, alike, points_to_object};
 use crate::value::{Content, Value, as_int, held, type_of};
 use c_cells::Path;
 use c_cells::cell::{Cell, CellNode};
-use c_cells::memory::Block;
+use c_cells::halt::Halt;
+use c_cells::slot::Found;
 use c_cells::tree::{CellTree, copy_tree};
 use c_meaning::StuckKind;
-use c_tree::Name;
 use c_tree::expr::{CExpr, CPlace};
 use c_tree::types::CType;
 use std::alloc::AllocError;
@@ -140,67 +137,8 @@ pub fn put_value(scope: &Scope, site: Site, value: Value) -> Result<Store, Halt>
     }
 }
 
-/// The number of the block of a variable of `int64_t`.
-fn int_variable(scope: &Scope, name: &Name) -> Option<usize>
-    requires { HasRoom scope.now }
-    ensures { IfSome result (λ n. IsIntBlock (g.number_of scope.now.program.now (names_at scope.now) name.now) scope.now.memory.now n) }
-{
-    match number_of(scope, name) {
-        Some(number) => match scope.memory.get(number) {
-            Some(block) => {
-                if is_int(&block.of) {
-                    Some(number)
-                } else {
-                    None
-                }
-            }
-            None => None,
-        },
-        None => None,
-    }
-}
-
-/// The number of the block in which `place = e;` stores, where the place is a variable of `int64_t`
-/// and the value a number.
-fn int_place(scope: &Scope, place: &CPlace) -> Option<usize>
-    requires { HasRoom scope.now }
-    ensures { IfSome result (λ n. (e : t.Expr) (z : ℤ) → v.value (view_at scope.now) e ≡ Got (w.int z)
-        → g.store scope.now.memory.now n [] (Leaf (Int z)) ≡ m.assign (view_at scope.now) place.now e) }
-{
-    match single_name(place) {
-        Some(name) => int_variable(scope, name),
-        None => None,
-    }
-}
-
-/// The store of `place = e;` where it is so.
-fn number_stored(scope: &Scope, place: &CPlace, e: &CExpr) -> Option<Store>
-    requires { HasRoom scope.now }
-    ensures { IfSome result (λ s. g.store scope.now.memory.now s.number s.path s.tree ≡ m.assign (view_at scope.now) place.now e.now) }
-{
-    match (int_place(scope, place), number_in(scope, e)) {
-        (Some(number), Some(z)) => Some(Store {
-            number,
-            path: Items::new(scope.alloc),
-            tree: leaf_tree(CellNode::Int(z)),
-        }),
-        _ => None,
-    }
-}
-
 /// `place = e;`
 pub fn assigned<'a>(scope: &Scope<'a>, place: &'a CPlace, e: &'a CExpr) -> Result<Store, Halt>
-    requires { HasRoom scope.now }
-    ensures { Stores scope.now.memory.now result (m.assign (view_at scope.now) place.now e.now) }
-{
-    match number_stored(scope, place, e) {
-        Some(store) => Ok(store),
-        None => assigned_stepwise(scope, place, e),
-    }
-}
-
-/// The place, the value and the store, one after another.
-fn assigned_stepwise<'a>(scope: &Scope<'a>, place: &'a CPlace, e: &'a CExpr) -> Result<Store, Halt>
     requires { HasRoom scope.now }
     ensures { Stores scope.now.memory.now result (m.assign (view_at scope.now) place.now e.now) }
 {
@@ -267,7 +205,7 @@ pub fn put<'a>(scope: &Scope<'a>, e: &'a CExpr) -> Result<u8, Halt>
     requires { HasRoom scope.now }
     ensures { Tells (λ n. n) result (byte_put (view_at scope.now) e.now) }
 {
-    let value = value_in(scope, e)?;
+    let value = value_of(scope, e)?;
     byte_in(&value)
 }
 
@@ -283,19 +221,7 @@ fn byte_in(value: &Value) -> Result<u8, Halt>
 }
 
 /// What a test chooses.
-#[tactic(auto, using(crate::proofs::Found::test_of))]
 pub fn test<'a>(scope: &Scope<'a>, e: &'a CExpr) -> Result<bool, Halt>
-    requires { HasRoom scope.now }
-    ensures { Tells (λ b. b) result (chosen (view_at scope.now) e.now) }
-{
-    match number_in(scope, e) {
-        Some(z) => Ok(!is_zero(z)),
-        None => test_stepwise(scope, e),
-    }
-}
-
-/// The value and what it says, one after another.
-fn test_stepwise<'a>(scope: &Scope<'a>, e: &'a CExpr) -> Result<bool, Halt>
     requires { HasRoom scope.now }
     ensures { Tells (λ b. b) result (chosen (view_at scope.now) e.now) }
 {
@@ -379,8 +305,11 @@ fn freed_block(scope: &Scope, number: usize, path: &Path) -> Result<Option<usize
     }
 }
 
-fn is_heap(block: &Block) -> bool
-    ensures { result ≡ block.now.heap }
+fn is_heap(block: Found) -> bool
+    ensures { result ≡ (found_block block.entry).heap }
 {
-    block.heap
+    match block {
+        Found::Int(_) => false,
+        Found::Block(block) => block.heap,
+    }
 }

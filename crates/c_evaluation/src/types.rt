@@ -7,9 +7,9 @@ ghost use Rattle.c_meaning.specs.States.{variable_type};
 ghost use Rattle.c_evaluation.specs.Types.{base_of, object_of, layer_of, value_type_of, signature_of, target_of, is_byte};
 ghost use Rattle.std.specs.Option.{option_map};
 
-use crate::halt::Halt;
 use crate::lookup::typedef_of;
 use crate::scope::Scope;
+use c_cells::halt::Halt;
 use c_tree::Name;
 use c_tree::program::CVariable;
 use c_tree::types::{CBaseType, CType};

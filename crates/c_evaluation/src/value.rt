@@ -1,7 +1,7 @@
 //! Values.
 ghost use Rattle.std.specs.Prelude.{◌≡◌};
 ghost use Rattle.c_meaning.specs.Values as m;
-ghost use Rattle.c_evaluation.specs.Halts.{said};
+ghost use Rattle.c_cells.specs.Halts.{said};
 ghost use Rattle.c_evaluation.specs.Values.{value_of, content_of, tree_in, type_in};
 ghost use Rattle.c_evaluation.specs.Types.{value_type_of};
 

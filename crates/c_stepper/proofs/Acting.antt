@@ -15,11 +15,11 @@ use Rattle.c_meaning.specs.Values.{Value, Typed, int, as_int, is_zero}
 use Rattle.c_meaning.specs.Evaluate.{View, Site, value, place}
 use Rattle.c_meaning.specs.States.{State}
 use Rattle.c_meaning.specs.Steps.{Next, Onward, Halted, next, to_do, with_blocks, put_value, malloc, assign, get_char, next_byte, after_byte, put_byte, put_char, branch, go_on, do_statement}
-use Rattle.c_evaluation.specs.declared.halt.Halt.{Halt}
-use Rattle.c_evaluation.specs.declared.halt.Halt.TheVariants.{Stuck, Memory}
+use Rattle.c_cells.specs.declared.halt.Halt.{Halt}
+use Rattle.c_cells.specs.declared.halt.Halt.TheVariants.{Stuck, Memory}
 use Rattle.c_stepper.specs.declared.runner.Runner.{Runner}
 use Rattle.c_stepper.specs.declared.runner.Done.{Done}
-use Rattle.c_evaluation.specs.Halts.{Tells}
+use Rattle.c_cells.specs.Halts.{Tells, Refuses}
 use Rattle.c_evaluation.specs.Stores.{Stores, Frees, address_stored, freed_of, byte_of_number, byte_number, byte_put, truth_in, chosen, byte_stored, next_number}
 use Rattle.c_stepper.specs.Runners.{Acts, first_of}
 
@@ -51,11 +51,13 @@ stops_free blocks c new input output calls Memory (Err (Stuck k)) a after p t h 
 stops_free blocks c new input output calls Memory (Err Memory) a after p t h = tt
 
 -- where the store is refused, too
-pub refused : (c : CProgram) (new : Runner) (input output calls : List ℕ) (kind : StuckKind) (r : Result Done Halt) (after : Next)
-    → IsErrAnd r (λ x. x ≡ Stuck kind) → after ≡ Halted kind output → Acts c new input output calls r after
-refused c new input output calls kind (Ok x) after p h = absurd p
-refused c new input output calls kind (Err (Stuck k)) after p h = let same : k ≡ kind = cc in ap (λ x. Halted x output) same ∙ sym h
-refused c new input output calls kind (Err Memory) after p h = cc
+pub refused : (c : CProgram) (new : Runner) (input output calls : List ℕ) (e : Halt) (r : Result Done Halt) (a : Answer Blocks) (after : Next)
+    → IsErrAnd r (λ x. x ≡ e) → Refuses e a → ((kind : StuckKind) → a ≡ Bad kind → after ≡ Halted kind output) → Acts c new input output calls r after
+refused c new input output calls e (Ok x) a after p t h = absurd p
+refused c new input output calls (Stuck kind) (Err (Stuck k)) a after p t h = let same : k ≡ kind = cc in ap (λ x. Halted x output) same ∙ sym (h kind t)
+refused c new input output calls (Stuck kind) (Err Memory) a after p t h = tt
+refused c new input output calls Memory (Err (Stuck k)) a after p t h = cc
+refused c new input output calls Memory (Err Memory) a after p t h = tt
 
 -- ---- putchar
 

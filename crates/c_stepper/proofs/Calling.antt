@@ -1,10 +1,9 @@
 -- The parts of a call.
-use Rattle.std.proofs.Common.{◌≡◌, ℕ, suc, zero, ◌+◌, ◌-◌, ◌<◌, ◌≤◌, List, [], ◌∷◌, ◌++◌, length, map, reverse, take, take_all, drop, get_or, Bool, true, false, Option, Some, None, Result, Ok, Err, refl, sym, ap, ◌∙◌, subst, arith}
+use Rattle.std.proofs.Common.{◌≡◌, ℕ, suc, zero, ◌+◌, ◌-◌, ◌<◌, ◌≤◌, List, [], ◌∷◌, ◌++◌, length, map, reverse, take, take_all, drop, get_or, true, false, Option, Some, None, Result, Ok, Err, refl, sym, ap, ◌∙◌, arith}
 use Rattle.std.specs.Prelude.{if◌then◌else◌, slice_get}
 use Rattle.std.specs.Str.{bytes_eq}
 use Rattle.c_tree.specs.Tree as t
 use Rattle.c_tree.specs.Tree.{ObjectType, Expr, Statement}
-use Rattle.c_tree.specs.declared.statement.CCallee.{CCallee}
 use Rattle.c_tree.specs.declared.statement.CCallee.TheVariants as callee
 use Rattle.c_tree.specs.declared.program.CDeclaration.{CDeclaration}
 use Rattle.c_tree.specs.declared.program.CVariable.{CVariable}
@@ -18,21 +17,20 @@ use Rattle.c_meaning.specs.Types.{Signature, Of, AnyPointer, Routine}
 use Rattle.c_meaning.specs.Values.{Value, Typed, leaf, converted}
 use Rattle.c_meaning.specs.Evaluate.{View, Site, root_number, name_value, function_value, value, values}
 use Rattle.c_meaning.specs.States as m
-use Rattle.c_meaning.specs.Steps.{called_cell, called_value, called, target_of, parameter_blocks}
+use Rattle.c_meaning.specs.Steps.{called_cell, called_value, parameter_blocks}
 use Rattle.name_tables.specs.Places.{first_from, function_name}
 use Rattle.std.proofs.lemmas.List.{reverse-append, length-reverse}
 use Rattle.std.specs.Result.{IsErrAnd}
-use Rattle.c_evaluation.specs.declared.halt.Halt.{Halt}
-use Rattle.c_evaluation.specs.declared.halt.Halt.TheVariants.{Stuck, Memory}
+use Rattle.c_cells.specs.declared.halt.Halt.{Halt}
+use Rattle.c_cells.specs.declared.halt.Halt.TheVariants.{Stuck, Memory}
 use Rattle.c_evaluation.specs.declared.value.Value as held
-use Rattle.c_evaluation.specs.Halts.{Tells}
+use Rattle.c_cells.specs.Halts.{Tells}
 use Rattle.c_evaluation.specs.Values as rv
 use Rattle.c_evaluation.specs.Values.{values_of, type_in, tree_in}
 use Rattle.name_tables.proofs.Finding.{below}
 use Rattle.c_evaluation.proofs.Lookups.{written_there}
 use Rattle.c_evaluation.proofs.Binary.{bind_got, bind_bad}
-use Rattle.c_stepper.specs.Runners.{parts_at}
-use Rattle.c_stepper.specs.Calls.{function_from, callee_value, function_called, callee_function, pointed_name, is_named, placed, site_target, parameter_block, Entered, fitted, entered_with, entered}
+use Rattle.c_stepper.specs.Calls.{function_from, function_called, callee_function, pointed_name, is_named, placed, site_target, parameter_block, fitted, entered_with}
 
 module _ (x : Value) where
   pub no_content : (kind : StuckKind) → leaf (tree_in x) ≡ Bad kind → pointed_name x ≡ Bad kind

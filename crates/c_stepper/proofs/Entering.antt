@@ -1,6 +1,6 @@
 -- A call enters a function.
-use Rattle.std.proofs.Common.{◌≡◌, ℕ, zero, suc, ◌+◌, List, [], ◌∷◌, ◌++◌, length, drop, ◌<◌, ◌^◌, All, Bool, true, false, Option, Some, None, Result, Ok, Err, refl, sym, ap, ◌∙◌, subst, inl, inr, ◌⊎◌, arith}
-use Rattle.std.specs.Prelude.{if◌then◌else◌, slice_get, nat_eq, ◌&&◌}
+use Rattle.std.proofs.Common.{◌≡◌, ℕ, suc, ◌+◌, List, [], ◌∷◌, ◌++◌, length, drop, ◌<◌, ◌^◌, All, Bool, true, false, Option, Some, None, Result, Ok, Err, refl, sym, ap, ◌∙◌, subst, inl, inr, ◌⊎◌, arith}
+use Rattle.std.specs.Prelude.{if◌then◌else◌, slice_get}
 use Rattle.std.specs.Option.{is_some}
 use Rattle.std.specs.Result.{IsErrAnd}
 use Rattle.std.proofs.lemmas.Slice.Eq.{bytes_eq-Decides}
@@ -20,7 +20,7 @@ use Rattle.c_meaning.specs.declared.StuckKind.TheVariants as k
 use Rattle.c_meaning.specs.Cells.{Name, Blocks}
 use Rattle.c_meaning.specs.Answer.{Answer, Got, Bad, ◌>>=◌, or_bad}
 use Rattle.c_meaning.specs.Values.{Value}
-use Rattle.c_meaning.specs.Evaluate.{View, name_value, value, values}
+use Rattle.c_meaning.specs.Evaluate.{View, values}
 use Rattle.c_meaning.specs.Fresh.{fresh_blocks}
 use Rattle.c_meaning.specs.Entries.{number_at_end, with_entry}
 use Rattle.c_meaning.specs.States as m
@@ -30,13 +30,13 @@ use Rattle.c_meaning.specs.Steps.{Next, Onward, Halted, next, do_statement, call
 use Rattle.c_stepper.specs.declared.runner.Frame.{Frame}
 use Rattle.c_stepper.specs.declared.runner.Runner.{Runner}
 use Rattle.c_stepper.specs.declared.runner.Done.{Done}
-use Rattle.c_evaluation.specs.declared.halt.Halt.{Halt}
-use Rattle.c_evaluation.specs.declared.halt.Halt.TheVariants.{Stuck, Memory}
+use Rattle.c_cells.specs.declared.halt.Halt.{Halt}
+use Rattle.c_cells.specs.declared.halt.Halt.TheVariants.{Stuck, Memory}
 use Rattle.c_stepper.specs.Spots.{todo_at}
 use Rattle.c_stepper.specs.Runners as r
 use Rattle.c_stepper.specs.Guides.{IsGuide}
 use Rattle.c_stepper.specs.Runners.{parts_of, parts_at, name_at, frame_of, frames_of, state_of, FitsFrame, FitsFrames, Acts}
-use Rattle.c_stepper.specs.Calls.{function_from, callee_value, function_called, callee_function, Entered, fitted, entered_with, entered, entered_state, entry_done}
+use Rattle.c_stepper.specs.Calls.{function_from, callee_value, callee_function, Entered, entered_with, entered, entered_state, entry_done}
 
 -- ---- the function with a name
 

@@ -1,5 +1,5 @@
 -- The end of a function.
-use Rattle.std.proofs.Common.{◌≡◌, ℕ, suc, ◌<◌, ◌+◌, List, [], ◌∷◌, ◌++◌, length, true, false, Option, Some, None, Result, Ok, Err, refl, sym, ap, subst, ◌∙◌, arith}
+use Rattle.std.proofs.Common.{◌≡◌, ℕ, suc, ◌<◌, ◌+◌, List, [], ◌∷◌, ◌++◌, length, true, false, Option, None, Result, Ok, Err, refl, sym, ap, subst, ◌∙◌, arith}
 use Rattle.c_tree.specs.declared.program.CVariable.{CVariable}
 use Rattle.std.specs.Prelude.{slice_set, ℤ, pos, negsuc, ◌<ℤ◌, nat_lt}
 use Rattle.std.proofs.lemmas.Int.{ints}
@@ -20,10 +20,10 @@ use Rattle.c_meaning.specs.Steps.{Next, Onward, Ended, Halted, next, with_blocks
 use Rattle.c_cells.specs.Forks.{forks}
 use Rattle.c_evaluation.proofs.Binary.{bind_got, bind_bad}
 use Rattle.std.specs.Result.{IsErrAnd}
-use Rattle.c_evaluation.specs.declared.halt.Halt.{Halt}
-use Rattle.c_evaluation.specs.declared.halt.Halt.TheVariants.{Stuck, Memory}
+use Rattle.c_cells.specs.declared.halt.Halt.{Halt}
+use Rattle.c_cells.specs.declared.halt.Halt.TheVariants.{Stuck, Memory}
 use Rattle.c_evaluation.specs.declared.store.Store.{Store}
-use Rattle.c_evaluation.specs.Halts.{Tells}
+use Rattle.c_cells.specs.Halts.{Tells}
 use Rattle.c_stepper.specs.declared.runner.Runner.{Runner}
 use Rattle.c_stepper.specs.declared.runner.Done.{Done}
 use Rattle.c_stepper.specs.Runners.{Acts}

@@ -10,3 +10,5 @@ pub mod Statuses
 pub mod Stepping
 pub mod Seeking
 pub mod Machining
+pub mod Coding
+pub mod Quickly

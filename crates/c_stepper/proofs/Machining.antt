@@ -4,8 +4,8 @@ use Rattle.std.proofs.lemmas.List.{append-nil}
 use Rattle.c_tree.specs.declared.program.CProgram.{CProgram}
 use Rattle.c_meaning.specs.States.{State}
 use Rattle.c_meaning.specs.Steps.{Next, Onward, after_byte, CStep}
-use Rattle.c_evaluation.specs.declared.halt.Halt.{Halt}
-use Rattle.c_evaluation.specs.declared.halt.Halt.TheVariants as h
+use Rattle.c_cells.specs.declared.halt.Halt.{Halt}
+use Rattle.c_cells.specs.declared.halt.Halt.TheVariants as h
 use Rattle.p2c_outside.specs.Told as o
 use Rattle.p2c_outside.specs.Told.{Gains, IsEmpty}
 use Rattle.held_bytes.proofs.ToldLemmas.{Gains-refl, Gains-append, GainsPart-second}

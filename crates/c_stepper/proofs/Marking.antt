@@ -1,5 +1,5 @@
 -- The marks of a name are those of its number.
-use Rattle.std.proofs.Common.{◌≡◌, ℕ, List, [], ◌∷◌, Bool, true, false, refl, sym, ap, ◌∙◌}
+use Rattle.std.proofs.Common.{◌≡◌, ℕ, List, [], ◌∷◌, true, false, refl, ap, ◌∙◌}
 use Rattle.std.specs.Prelude.{◌-◌, ◌&&◌, if◌then◌else◌, nat_eq, nat_lt, nat_le}
 use Rattle.std.specs.Option.{is_some}
 use Rattle.c_meaning.specs.Entries.{Tail, Outside, Begun, Counted, with_digit, with_byte, tail_number, number_after, number_at_end}

@@ -8,8 +8,8 @@ use Rattle.c_meaning.specs.Answer.{Got, Bad, ◌>>=◌}
 use Rattle.c_meaning.specs.Evaluate.{View, Site, place}
 use Rattle.c_meaning.specs.States.{State}
 use Rattle.c_meaning.specs.Steps.{Halted, view_of, CStep}
-use Rattle.c_evaluation.specs.declared.halt.Halt.{Halt}
-use Rattle.c_evaluation.specs.declared.halt.Halt.TheVariants.{Stuck, Memory}
+use Rattle.c_cells.specs.declared.halt.Halt.{Halt}
+use Rattle.c_cells.specs.declared.halt.Halt.TheVariants.{Stuck, Memory}
 use Rattle.c_evaluation.specs.Stores.{Finds, byte_stored}
 use Rattle.held_bytes.specs.Held.{first_of}
 use Rattle.c_stepper.specs.Spots.{todo_at}

@@ -1,5 +1,5 @@
 -- The statuses with which programs end.
-use Rattle.std.proofs.Common.{◌≡◌, ℕ, zero, suc, ◌<◌, arith, Bool, true, false, List, [], ◌∷◌, ◌++◌, length, Option, Some, None, refl, sym, ap, ◌∙◌, subst}
+use Rattle.std.proofs.Common.{◌≡◌, ℕ, zero, suc, ◌<◌, arith, Bool, true, false, List, [], ◌∷◌, ◌++◌, length, Option, Some, None, refl, ap, subst}
 use Rattle.std.specs.Prelude.{ℤ, pos, negsuc, nat_lt}
 use Rattle.std.proofs.lemmas.Bool.Decides.{nat_tests}
 use Rattle.c_tree.specs.Tree as t
@@ -10,9 +10,8 @@ use Rattle.c_meaning.specs.Answer.{Answer, Got, Bad, ◌>>=◌, when}
 use Rattle.c_meaning.specs.Evaluate.{View}
 use Rattle.c_meaning.specs.Values.{Value, as_int}
 use Rattle.c_meaning.specs.States.{State, Frame}
-use Rattle.c_meaning.specs.Steps as n
-use Rattle.c_meaning.specs.Steps.{Next, Onward, Ended, Halted, next, finish, in_status, status_of, leave, leave_to, leave_with, go_on, do_statement, do_next, CStep}
-use Rattle.c_stepper.specs.Machines.{stood, Takes, Steps, HasStatus, ended_by}
+use Rattle.c_meaning.specs.Steps.{Next, Ended, next, finish, in_status, status_of, leave, leave_to, leave_with, go_on, do_statement, do_next, CStep}
+use Rattle.c_stepper.specs.Machines.{stood, Takes, HasStatus, ended_by}
 use Rattle.c_stepper.specs.declared.machine.Machine.{Machine}
 use Rattle.c_stepper.specs.declared.machine.Stepped.{Stepped}
 use Rattle.c_stepper.specs.declared.machine.Stepped.TheVariants as s

@@ -1,14 +1,13 @@
 -- The statement that comes next is the step.
-use Rattle.std.proofs.Common.{◌≡◌, ℕ, ◌+◌, List, [], ◌∷◌, Some, None, sym, ap, ◌∙◌, subst}
-use Rattle.std.specs.Prelude.{Option, All}
+use Rattle.std.proofs.Common.{◌≡◌, ℕ, ◌+◌, List, Some, None, sym, ap, subst}
+use Rattle.std.specs.Prelude.{All}
 use Rattle.c_tree.specs.Tree.{Statement}
 use Rattle.c_tree.specs.declared.program.CProgram.{CProgram}
-use Rattle.c_meaning.specs.Values.{Value}
 use Rattle.c_meaning.specs.Steps.{do_statement, leave, view_of, do_next, CStep}
 use Rattle.c_stepper.specs.declared.guide.Guide.{Guide}
 use Rattle.c_stepper.specs.Guides.{IsGuide}
 use Rattle.c_stepper.specs.Spots.{todo_at}
-use Rattle.c_stepper.specs.Runners.{state_of, runner_view, body_at, parts_at, FitsFrame, FitsFrames, Stays, IsSettled, statement_at}
+use Rattle.c_stepper.specs.Runners.{state_of, runner_view, body_at, FitsFrame, FitsFrames, Stays, IsSettled, statement_at}
 use Rattle.c_stepper.specs.declared.runner.Runner.{Runner}
 use Rattle.c_stepper.proofs.Todo.{todo_next, todo_end}
 

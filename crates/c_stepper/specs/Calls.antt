@@ -10,8 +10,8 @@ use Rattle.c_tree.specs.declared.program.CVariable.{CVariable}
 use Rattle.c_tree.specs.declared.program.CFunction.{CFunction}
 use Rattle.c_tree.specs.declared.program.CProgram.{CProgram}
 use Rattle.c_meaning.specs.declared.StuckKind.TheVariants as k
-use Rattle.c_meaning.specs.Cells.{Name, Tree, Block, Blocks}
-use Rattle.c_meaning.specs.Answer.{Answer, Got, Bad, ◌>>=◌, or_bad}
+use Rattle.c_meaning.specs.Cells.{Name, Block, Blocks}
+use Rattle.c_meaning.specs.Answer.{Answer, Got, ◌>>=◌, or_bad}
 use Rattle.c_meaning.specs.Values.{Value, leaf, converted}
 use Rattle.c_evaluation.specs.Values.{tree_in}
 use Rattle.c_meaning.specs.Evaluate.{View, Site, name_value, root_number, value, values}

@@ -1,14 +1,14 @@
 -- The end of a function.
 use Rattle.std.specs.Prelude.{◌≡◌, ℕ, List, Option, Some, None, Result, Ok, Err}
 use Rattle.c_tree.specs.declared.program.CDeclaration.{CDeclaration}
-use Rattle.c_meaning.specs.Cells.{Tree, Blocks}
+use Rattle.c_meaning.specs.Cells.{Blocks}
 use Rattle.c_meaning.specs.Answer.{Answer, Got, Bad, ◌>>=◌}
 use Rattle.c_meaning.specs.Types.{PlaceType}
 use Rattle.c_meaning.specs.Values.{Value, value_of, as_int}
 use Rattle.c_meaning.specs.States as m
 use Rattle.c_meaning.specs.Steps.{taken, in_status}
-use Rattle.c_evaluation.specs.declared.halt.Halt.{Halt}
-use Rattle.c_evaluation.specs.declared.halt.Halt.TheVariants.{Stuck, Memory}
+use Rattle.c_cells.specs.declared.halt.Halt.{Halt}
+use Rattle.c_cells.specs.declared.halt.Halt.TheVariants.{Stuck, Memory}
 use Rattle.c_evaluation.specs.declared.store.Store.{Store}
 use Rattle.c_evaluation.specs.Types.{object_of}
 use Rattle.c_stepper.specs.declared.leave.Given.{Given}

@@ -5,3 +5,4 @@ pub mod Calls
 pub mod Marks
 pub mod Leaving
 pub mod Machines
+pub mod Quick

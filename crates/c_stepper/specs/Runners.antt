@@ -16,8 +16,8 @@ use Rattle.c_meaning.specs.Steps.{Next, names_from, view_of, CStep}
 use Rattle.c_meaning.specs.Cells.{Name}
 use Rattle.c_stepper.specs.Guides.{IsGuide}
 use Rattle.c_stepper.specs.Spots.{list_in, todo_of}
-use Rattle.c_evaluation.specs.declared.halt.Halt.{Halt}
-use Rattle.c_evaluation.specs.declared.halt.Halt.TheVariants.{Stuck, Memory}
+use Rattle.c_cells.specs.declared.halt.Halt.{Halt}
+use Rattle.c_cells.specs.declared.halt.Halt.TheVariants.{Stuck, Memory}
 use Rattle.c_stepper.specs.declared.runner.Target.{Target}
 use Rattle.c_stepper.specs.declared.runner.Target.TheVariants as g
 use Rattle.c_stepper.specs.declared.runner.Frame.{Frame}

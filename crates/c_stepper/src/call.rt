@@ -3,7 +3,7 @@ ghost use Rattle.std.specs.Prelude.{◌≡◌, ◌<◌, Some, IfOk, IfSome, leng
 ghost use Rattle.c_meaning.specs.Answer.{Got};
 ghost use Rattle.c_meaning.specs.Evaluate as e;
 ghost use Rattle.c_meaning.specs.Steps as m;
-ghost use Rattle.c_evaluation.specs.Halts.{said, Tells};
+ghost use Rattle.c_cells.specs.Halts.{said, Tells};
 ghost use Rattle.c_evaluation.specs.Scopes.{view_at, site_of, HasRoom};
 ghost use Rattle.c_tree.specs.types.View.{base_of as written_base};
 ghost use Rattle.c_evaluation.specs.Types.{object_of, base_of, place_type_of};
@@ -14,11 +14,10 @@ ghost use Rattle.c_stepper.specs.Calls.{function_from, callee_value, function_ca
 use crate::runner::{Target, written_text};
 use c_cells::cell::copied;
 use c_cells::fresh::copy_type;
+use c_cells::halt::Halt;
 use c_cells::memory::{Block, Memory};
 use c_evaluation::evaluate::{place_of, value_of};
-use c_evaluation::halt::Halt;
 use c_evaluation::lookup::{function_place, number_of};
-use c_evaluation::numbers::value_in;
 use c_evaluation::place::Site;
 use c_evaluation::read::{name_value, root_number};
 use c_evaluation::scope::Scope;
@@ -261,7 +260,7 @@ fn values<'s, 'a>(scope: &'s Scope<'a>, arguments: &'a [CExpr]) -> Result<Items<
     let mut list = Items::new(scope.alloc);
     let mut rest = arguments;
     while let [first, after @ ..] = rest {
-        list.push(value_in(scope, first)?)?;
+        list.push(value_of(scope, first)?)?;
         rest = after;
     }
     Ok(list)
@@ -300,7 +299,7 @@ fn blocks_from<'s, 'a>(
         let Some(value) = left.pop() else {
             return Err(Halt::Stuck(StuckKind::Mismatch));
         };
-        blocks.push(parameter_block(scope, first, value)?)?;
+        blocks.push(scope.alloc, parameter_block(scope, first, value)?)?;
         rest = after;
     }
     if left.is_empty() {

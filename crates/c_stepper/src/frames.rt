@@ -9,7 +9,7 @@ ghost use Rattle.c_meaning.specs.Entries.{number_at_end};
 ghost use Rattle.c_meaning.specs.Runs.{start};
 ghost use Rattle.c_meaning.specs.Steps as m;
 ghost use Rattle.c_meaning.specs.Steps.{Onward, do_statement, names_from};
-ghost use Rattle.c_evaluation.specs.Halts.{Tells};
+ghost use Rattle.c_cells.specs.Halts.{Tells};
 ghost use Rattle.c_evaluation.specs.Types.{object_of};
 ghost use Rattle.c_stepper.specs.Guides.{IsGuide};
 ghost use Rattle.c_stepper.specs.Spots.{todo_at};
@@ -24,8 +24,8 @@ use crate::names::ends_in_number;
 use crate::runner::{Done, Frame, Runner, Target, written_text};
 use crate::spot::Spot;
 use c_cells::fresh::push_fresh;
+use c_cells::halt::Halt;
 use c_cells::memory::Memory;
-use c_evaluation::halt::Halt;
 use c_evaluation::store::Store;
 use c_evaluation::types::Object;
 use c_tree::expr::{CExpr, CPlace};
@@ -262,7 +262,7 @@ impl Runner {
     {
         let store = self.answer(program, answer)?;
         self.forget_frame(program);
-        put_answer(&mut self.memory, store)?;
+        put_answer(self.alloc, &mut self.memory, store)?;
         self.frame = frame;
         Ok(Done::Going)
     }

@@ -5,13 +5,16 @@ ghost use Rattle.c_stepper.specs.Guides.{IsGuide};
 use c_tree::program::CProgram;
 use label_ways::ProgramWays;
 use name_tables::Tables;
+use resolved_code::ProgramCode;
 use std::alloc::{AllocError, Global};
 
-/// Where the names of a program stand, and the ways to its labels.
+/// Where the names of a program stand, the ways to its labels, and its statements that reckon with
+/// numbers alone.
 #[derive(Drop)]
 pub struct Guide {
     pub names: Tables,
     pub labels: ProgramWays,
+    pub code: ProgramCode,
 }
 
 impl Guide {
@@ -21,6 +24,11 @@ impl Guide {
     {
         let names = Tables::new(alloc, program)?;
         let labels = ProgramWays::new(alloc, program)?;
-        Ok(Guide { names, labels })
+        let code = ProgramCode::new(alloc, program, &names)?;
+        Ok(Guide {
+            names,
+            labels,
+            code,
+        })
     }
 }

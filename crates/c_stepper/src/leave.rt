@@ -2,11 +2,11 @@
 ghost use Rattle.std.specs.Prelude.{◌≡◌, ◌<◌, ◌+◌, ◌^◌, length, IfOk, IfErr, OnOk};
 ghost use Rattle.std.specs.Option.{option_map};
 ghost use Rattle.c_meaning.specs.Cells.{Blocks};
-ghost use Rattle.c_meaning.specs.Answer.{Got, Bad};
+ghost use Rattle.c_meaning.specs.Answer.{Got};
 ghost use Rattle.c_meaning.specs.States as s;
 ghost use Rattle.c_meaning.specs.Steps as m;
 ghost use Rattle.c_meaning.specs.Values as w;
-ghost use Rattle.c_evaluation.specs.Halts.{Tells};
+ghost use Rattle.c_cells.specs.Halts.{Tells, Refuses};
 ghost use Rattle.c_evaluation.specs.Scopes.{view_at, HasRoom};
 ghost use Rattle.c_evaluation.specs.Types.{object_of, place_type_of};
 ghost use Rattle.c_evaluation.specs.Values.{value_of as worth};
@@ -16,10 +16,10 @@ ghost use Rattle.c_stepper.specs.Leaving.{given_of, status_in, Answers, place_an
 use crate::runner::Target;
 use c_cells::Path;
 use c_cells::cell::copied;
+use c_cells::halt::Halt;
 use c_cells::memory::Memory;
 use c_cells::tree::{CellTree, CellTreeNode};
-use c_evaluation::halt::Halt;
-use c_evaluation::numbers::value_in;
+use c_evaluation::evaluate::value_of;
 use c_evaluation::read::scalar_value;
 use c_evaluation::scope::Scope;
 use c_evaluation::store::{Store, converted, taken};
@@ -69,7 +69,7 @@ pub fn returned<'a, 'p>(
     match e {
         None => Ok(None),
         Some(e) => {
-            let value = value_in(scope, e)?;
+            let value = value_of(scope, e)?;
             let given = result_given(scope, of, value)?;
             Ok(Some(given))
         }
@@ -145,14 +145,14 @@ pub fn answer_stored(
 }
 
 /// Puts an answer where it goes.
-pub fn put_answer(memory: &mut Memory, store: Option<Store>) -> Result<(), StuckKind>
+pub fn put_answer(alloc: Global, memory: &mut Memory, store: Option<Store>) -> Result<(), Halt>
     ensures stored { OnOk result (stored_in memory.old store ≡ Got memory.new) }
-    ensures refused { IfErr result (λ kind. stored_in memory.old store ≡ Bad kind) }
+    ensures refused { IfErr result (λ halt. Refuses halt (stored_in memory.old store)) }
 {
     match store {
         None => Ok(()),
         Some(Store { number, path, tree }) => {
-            memory.store(number, path.as_slice(), tree)?;
+            memory.store(alloc, number, path.as_slice(), tree)?;
             Ok(())
         }
     }
@@ -169,8 +169,7 @@ pub fn forget_variables(memory: &mut Memory, first: usize, variables: &[CVariabl
     let mut number = first;
     let mut rest = variables;
     while let [_, after @ ..] = rest {
-        let gone = memory.remove(number);
-        drop(gone);
+        memory.remove(number);
         number += 1;
         rest = after;
     }

@@ -11,6 +11,7 @@ mod guide;
 mod leave;
 mod machine;
 mod names;
+mod quick;
 mod runner;
 mod spot;
 

@@ -11,7 +11,7 @@ ghost use Rattle.c_stepper.specs.Machines.{stood, IsFor, Begins, Steps, Takes, C
 
 use crate::act::reads;
 use crate::runner::{Done, Runner};
-use c_evaluation::halt::Halt;
+use c_cells::halt::Halt;
 use c_meaning::StuckKind;
 use c_tree::program::CProgram;
 use c_tree::statement::CStatement;

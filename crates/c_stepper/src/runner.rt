@@ -15,8 +15,8 @@ use crate::guide::Guide;
 use crate::spot::Spot;
 use c_cells::Path;
 use c_cells::fresh::fresh_block;
+use c_cells::halt::Halt;
 use c_cells::memory::Memory;
-use c_evaluation::halt::Halt;
 use c_evaluation::scope::Scope;
 use c_evaluation::store::{Store, assigned, found, freed, got, malloced, put, test};
 use c_meaning::StuckKind;
@@ -170,7 +170,8 @@ impl Runner {
         ensures stays { Stays self.old self.new }
     {
         let Store { number, path, tree } = self.assignment(program, place, e)?;
-        self.memory.store(number, path.as_slice(), tree)?;
+        self.memory
+            .store(self.alloc, number, path.as_slice(), tree)?;
         self.frame.spot.at += 1;
         Ok(Done::Going)
     }
@@ -191,7 +192,8 @@ impl Runner {
         ensures going { IfOk result (λ done. done ≡ Done.Going) }
     {
         let Store { number, path, tree } = self.reading(program, place, byte)?;
-        self.memory.store(number, path.as_slice(), tree)?;
+        self.memory
+            .store(self.alloc, number, path.as_slice(), tree)?;
         self.frame.spot.at += 1;
         Ok(Done::Going)
     }
@@ -331,8 +333,8 @@ impl Runner {
         let block = fresh_block(self.alloc, false, true, declared, of)?;
         let Store { number, path, tree } = self.address(program, place, of)?;
         let at = path.as_slice();
-        self.memory.store(number, at, tree)?;
-        self.memory.push(block)?;
+        self.memory.store(self.alloc, number, at, tree)?;
+        self.memory.push(self.alloc, block)?;
         self.frame.spot.at += 1;
         Ok(Done::Going)
     }
@@ -369,8 +371,7 @@ fn forget(memory: &mut Memory, which: Option<usize>)
 {
     match which {
         Some(number) => {
-            let gone = memory.remove(number);
-            drop(gone);
+            memory.remove(number);
         }
         None => {}
     }

@@ -1,5 +1,5 @@
 -- Lists of fields that are written are read, and with them all types.
-use Rattle.std.proofs.Common.{◌≡◌, ℕ, zero, suc, Bool, true, false, ◌&&◌, List, [], ◌∷◌, map, Option, Some, None, Ok, refl, sym, ap, subst, ◌∙◌, arith}
+use Rattle.std.proofs.Common.{◌≡◌, ℕ, zero, suc, Bool, true, false, List, [], ◌∷◌, map, Option, Some, None, Ok, refl, sym, ap, subst, ◌∙◌, arith}
 use Rattle.std.specs.Option.{option_map}
 use Rattle.p2c_text.specs.declared.dialect.Dialect.{Dialect}
 use Rattle.p2c_text.specs.declared.place.Span.{Span}
@@ -11,8 +11,8 @@ use Rattle.pascal_tree.specs.declared.types.Fixed.{Fixed, out-Fixed}
 use Rattle.pascal_tree.specs.declared.types.FixedSection.{FixedSection, out-FixedSection}
 use Rattle.pascal_tree.specs.declared.types.Variants.{Variants}
 use Rattle.token_parsing.specs.Parser.{Parser, begins}
-use Rattle.expr_parser.specs.Tokens.{Token, Placed, Symbol, Word, plain}
-use Rattle.expr_parser.specs.Layout.{Layout, Done, ◌&◌, symbol, IsWritten}
+use Rattle.expr_parser.specs.Tokens.{Token, Placed, plain}
+use Rattle.expr_parser.specs.Layout.{Done, ◌&◌, symbol, IsWritten}
 use Rattle.expr_parser.specs.Spans.{span_between}
 use Rattle.expr_parser.specs.Semicolons.{with_semicolons, optional_semicolon as write_semicolon}
 use Rattle.expr_parser.specs.Grammar.{some_all, optional}
@@ -22,17 +22,17 @@ use Rattle.expr_parser.proofs.Layouts.{spell, spell_join, join_assoc}
 use Rattle.expr_parser.proofs.Lookahead.{looks_name, looks_word, looks_symbol, on_name, on_word, on_symbol, on_symbol_here, says_symbol}
 use Rattle.expr_parser.proofs.Followed.{on_first}
 use Rattle.expr_parser.proofs.FollowedParts.{Part, part_as, part_first, part_second, part_left, part_right, part_inside, part_counted}
-use Rattle.expr_parser.proofs.Exact.{written_as, written_split, written_inside, written_inside_both, written_plain, ends_plain, exact_then, exact_part, exact_token, exact_made, exact_first, exact_second, looks_plain, looks_written}
+use Rattle.expr_parser.proofs.Exact.{written_as, written_inside, written_inside_both, written_plain, ends_plain, exact_then, exact_part, exact_token, exact_made, exact_first, exact_second, looks_written}
 use Rattle.expr_parser.proofs.ExactLists.{parts_exact}
-use Rattle.type_parser.specs.Writing.{write_names, fixed_and_variants, write_type, write_fields, write_fixed, write_section, write_variants}
-use Rattle.type_parser.specs.Grammar.{some_names, formed_type, formed_fields, formed_fixed, formed_section, formed_variants}
-use Rattle.type_parser.specs.Fields.{section_of, section, next_section, more_sections, fixed_of, fixed, optional_variants, optional_semicolon, fields_of, with_fixed, only_variants, no_fields, fields_by}
+use Rattle.type_parser.specs.Writing.{write_names, write_type, write_fixed, write_section, write_variants}
+use Rattle.type_parser.specs.Grammar.{some_names, formed_type, formed_fixed, formed_section, formed_variants}
+use Rattle.type_parser.specs.Fields.{section_of, section, next_section, more_sections, fixed_of, fixed, optional_semicolon, fields_of, with_fixed, only_variants, no_fields, fields_by}
 use Rattle.type_parser.specs.Levels.{type_node, fields}
 use Rattle.type_parser.proofs.Views.{fields_is, fixed_is, section_is}
 use Rattle.type_parser.proofs.FollowedTypes.{TypeEnds, marks_end, Closing, at_close, at_end}
 use Rattle.type_parser.proofs.FollowedRows.{joined, NoMore}
 use Rattle.type_parser.proofs.FollowedVariants.{on_constant, variants_spelled, write_more}
-use Rattle.type_parser.proofs.FollowedFields.{section_written, section_formed, section_starts, fixed_written, fixed_formed, fixed_starts, inside_of, formed_inside, fields_written, fields_formed, none_behind, types_end, names_end, fixed_ends, type_deep, fields_deep}
+use Rattle.type_parser.proofs.FollowedFields.{section_written, section_formed, section_starts, fixed_written, fixed_formed, fixed_starts, inside_of, formed_inside, fields_written, fields_formed, none_behind, names_end, fixed_ends, type_deep, fields_deep}
 use Rattle.type_parser.proofs.ExactNames.{names_exact}
 use Rattle.type_parser.proofs.ExactTypes.{TypeExact, FieldsExact, type_by_exact}
 use Rattle.type_parser.proofs.ExactVariants.{no_more, variants_exact, optional_variants_exact}

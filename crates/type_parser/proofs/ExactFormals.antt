@@ -1,5 +1,5 @@
 -- Formal parameters that are written are read.
-use Rattle.std.proofs.Common.{◌≡◌, ℕ, zero, suc, Bool, true, false, List, [], ◌∷◌, map, Option, Some, None, Ok, refl, sym, ap, ◌∙◌, arith}
+use Rattle.std.proofs.Common.{◌≡◌, ℕ, zero, suc, Bool, true, false, List, [], ◌∷◌, map, Option, Some, None, Ok, refl, ap, ◌∙◌, arith}
 use Rattle.std.specs.Option.{option_map}
 use Rattle.p2c_text.specs.declared.place.Span.{Span}
 use Rattle.dialect_lexer.specs.declared.token.Word.TheVariants as word_
@@ -11,7 +11,7 @@ use Rattle.pascal_tree.specs.declared.declarations.Formal.TheVariants as formal_
 use Rattle.pascal_tree.specs.declared.declarations.Formals.{Formals, out-Formals}
 use Rattle.token_parsing.specs.Parser.{Parser, begins}
 use Rattle.expr_parser.specs.Tokens.{Token, Placed, Name, plain}
-use Rattle.expr_parser.specs.Layout.{Layout, Done, ◌&◌, word, symbol, IsWritten}
+use Rattle.expr_parser.specs.Layout.{Done, ◌&◌, word, symbol, IsWritten}
 use Rattle.expr_parser.specs.Semicolons.{with_semicolons, optional_part}
 use Rattle.expr_parser.specs.Writing.{identifier}
 use Rattle.expr_parser.specs.Grammar.{some_all, optional}
@@ -19,18 +19,18 @@ use Rattle.expr_parser.specs.Classes.{words, symbols, same_word, same_symbol}
 use Rattle.expr_parser.proofs.Layouts.{spell, spell_join}
 use Rattle.expr_parser.proofs.Lookahead.{looks_word, looks_symbol, on_word, on_symbol, on_symbol_here, says_word, says_symbol}
 use Rattle.expr_parser.proofs.Followed.{on_first}
-use Rattle.expr_parser.proofs.FollowedParts.{Part, part_as, part_first, part_left, part_right, part_inside, part_counted}
+use Rattle.expr_parser.proofs.FollowedParts.{Part, part_as, part_left, part_right, part_inside, part_counted}
 use Rattle.expr_parser.proofs.Exact.{written_as, written_inside, written_inside_both, written_plain, ends_plain, exact_then, exact_part, exact_token, exact_name, exact_made, exact_first, exact_second, looks_written}
 use Rattle.expr_parser.proofs.ExactLists.{semicolons_exact}
 use Rattle.type_parser.specs.Writing.{write_names, write_type_name, optional_word, write_formal, write_formals}
-use Rattle.type_parser.specs.Grammar.{some_names, formed_formal, formed_formals}
+use Rattle.type_parser.specs.Grammar.{formed_formal, formed_formals}
 use Rattle.type_parser.specs.Names.{type_name}
 use Rattle.type_parser.specs.Formals.{optional_formals, optional_var, result, variables, procedure, function, formal, next_formal, more_formals, listed_formals, formals_of, formals_by}
 use Rattle.type_parser.specs.Levels.{formals}
 use Rattle.type_parser.proofs.WrittenNodes.{write_formal_variables, write_formal_procedure, write_formal_function}
 use Rattle.type_parser.proofs.FormedNodes.{formed_formal_variables, formed_formal_procedure, formed_formal_function}
 use Rattle.type_parser.proofs.Views.{formal_cases, formals_is}
-use Rattle.type_parser.proofs.FollowedFormals.{FormalEnds, semicolon_ends, close_ends, colon_ends, first_name, formals_written, formals_formed, formals_deep}
+use Rattle.type_parser.proofs.FollowedFormals.{FormalEnds, semicolon_ends, close_ends, first_name, formals_written, formals_formed, formals_deep}
 use Rattle.type_parser.proofs.ExactNames.{names_exact, type_name_exact}
 
 module _ (end : Span) (k : ℕ) where

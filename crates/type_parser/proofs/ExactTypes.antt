@@ -20,7 +20,7 @@ use Rattle.expr_parser.specs.Grammar.{some_all}
 use Rattle.expr_parser.specs.Writing.{identifier}
 use Rattle.expr_parser.specs.Classes.{identifiers, words, symbols, same_word, same_symbol}
 use Rattle.expr_parser.specs.ConstantNodes.{write_constant}
-use Rattle.expr_parser.proofs.Layouts.{spell, spell_join}
+use Rattle.expr_parser.proofs.Layouts.{spell}
 use Rattle.expr_parser.proofs.Lookahead.{looks_name, looks_word, looks_symbol, on_word, on_symbol, on_symbol_here, says_word, says_symbol}
 use Rattle.expr_parser.proofs.Followed.{on_first}
 use Rattle.expr_parser.proofs.FollowedParts.{Part, part_as, part_first, part_second, part_left, part_right, part_inside, part_counted}

@@ -1,6 +1,5 @@
 -- Variants of records that are written are read.
-use Rattle.std.proofs.Common.{◌≡◌, ℕ, Bool, true, false, ◌&&◌, List, [], ◌∷◌, map, Option, Some, None, Ok, refl, sym, ap, subst, ◌∙◌}
-use Rattle.std.specs.Prelude.{IsTrue}
+use Rattle.std.proofs.Common.{◌≡◌, ℕ, Bool, true, false, ◌&&◌, List, [], ◌∷◌, map, Option, Some, None, Ok, refl, ap, ◌∙◌}
 use Rattle.std.specs.Option.{option_map}
 use Rattle.p2c_text.specs.declared.dialect.Dialect.{Dialect}
 use Rattle.p2c_text.specs.declared.place.Span.{Span}
@@ -13,7 +12,7 @@ use Rattle.pascal_tree.specs.declared.types.Fields.{Fields}
 use Rattle.pascal_tree.specs.declared.types.Variant.{Variant, out-Variant}
 use Rattle.pascal_tree.specs.declared.types.Variants.{Variants, out-Variants}
 use Rattle.token_parsing.specs.Parser.{Parser, begins, rest}
-use Rattle.expr_parser.specs.Tokens.{Token, Placed, Symbol, plain}
+use Rattle.expr_parser.specs.Tokens.{Token, Placed, plain}
 use Rattle.expr_parser.specs.Layout.{Layout, Done, ◌&◌, word, symbol, IsWritten}
 use Rattle.expr_parser.specs.Semicolons.{with_semicolons}
 use Rattle.expr_parser.specs.Writing.{identifier}

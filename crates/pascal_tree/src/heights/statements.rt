@@ -57,13 +57,17 @@ fn plain_height(plain: &Plain) -> u32
             arms,
             rest,
             ..
-        } => expr_height(selector.get()).max(arm_heights(arms.as_slice()).max(rest_part_height(rest))),
+        } => expr_height(selector.get()).max(arm_heights(arms.as_slice()).max(rest_part_height(
+            rest,
+        ))),
         Plain::While {
             condition,
             body,
             ..
         } => expr_height(condition.get()).max(stmt_height(body.get())),
-        Plain::Repeat { body, until, .. } => stmts_height(body.as_slice()).max(expr_height(until.get())),
+        Plain::Repeat { body, until, .. } => stmts_height(body.as_slice()).max(expr_height(
+            until.get(),
+        )),
         Plain::For {
             first,
             last,

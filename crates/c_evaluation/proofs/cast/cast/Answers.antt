@@ -1,7 +1,7 @@
 use Rattle.std.proofs.Common.{◌≡◌, ◌∙◌, sym, ap, true}
 use Rattle.c_meaning.specs.Answer.{Bad}
 use Rattle.c_meaning.specs.Values as w
-use Rattle.c_evaluation.specs.Halts.{said}
+use Rattle.c_cells.specs.Halts.{said}
 use Rattle.c_evaluation.specs.Values.{value_of, content_of, tree_in, type_in}
 use Rattle.c_evaluation.specs.Scopes.{view_at}
 use Rattle.std.proofs.Common.{◌||◌}

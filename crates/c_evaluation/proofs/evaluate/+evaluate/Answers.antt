@@ -9,7 +9,7 @@ use Rattle.c_meaning.specs.Values as w
 use Rattle.c_meaning.specs.Values.{int, word}
 use Rattle.c_meaning.specs.Evaluate as m
 use Rattle.c_meaning.specs.Evaluate.{View, value, place}
-use Rattle.c_evaluation.specs.Halts.{Tells}
+use Rattle.c_cells.specs.Halts.{Tells}
 use Rattle.c_evaluation.specs.Values.{value_of}
 use Rattle.c_evaluation.specs.Scopes.{view_at, site_of}
 use Rattle.c_evaluation.specs.Evaluations.{onto_element, onto_selector, onto_selectors, decision, name_in}

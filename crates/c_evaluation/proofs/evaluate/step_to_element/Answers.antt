@@ -4,7 +4,7 @@ use Rattle.std.proofs.lemmas.Int.{to_z-of_z}
 use Rattle.c_meaning.specs.Answer.{Got, Bad}
 use Rattle.c_meaning.specs.Values as w
 use Rattle.c_meaning.specs.Evaluate as m
-use Rattle.c_evaluation.specs.Halts.{said}
+use Rattle.c_cells.specs.Halts.{said}
 use Rattle.c_evaluation.specs.Values.{value_of}
 use Rattle.c_evaluation.specs.Scopes.{site_of, step_of}
 use Rattle.c_evaluation.specs.Types.{place_type_of}

@@ -1,7 +1,7 @@
 use Rattle.std.proofs.Common.{◌≡◌, ◌∙◌, sym, ap}
 use Rattle.c_meaning.specs.Answer.{Got, Bad}
 use Rattle.c_meaning.specs.Evaluate as m
-use Rattle.c_evaluation.specs.Halts.{said}
+use Rattle.c_cells.specs.Halts.{said}
 use Rattle.c_evaluation.specs.Scopes.{view_at, site_of, step_of}
 use Rattle.c_meaning.specs.States.{view}
 use Rattle.c_evaluation.proofs.Evaluations.{no_member, to_member}

@@ -1,9 +1,6 @@
-use Rattle.std.proofs.Common.{◌≡◌, ◌∙◌, sym, ap, subst, arith, w64, to_z, of_z, Option}
+use Rattle.std.proofs.Common.{◌≡◌, sym, arith, w64, to_z, of_z}
 use Rattle.std.proofs.lemmas.Int.{ints}
-use Rattle.std.specs.Prelude.{ℤ, IfSome}
-use Rattle.c_tree.specs.declared.operators.CBinary.{CBinary}
 use Rattle.c_tree.specs.declared.operators.CBinary.TheVariants as b
-use Rattle.c_meaning.specs.Values.{int, joined}
 use Rattle.c_evaluation.proofs.Found.{at_op, compared, less, at_most, greater, at_least, equals, differs}
 use Rattle.c_evaluation.proofs.numbers.operation.Goals as goal
 

@@ -3,7 +3,7 @@ use Rattle.c_meaning.specs.Answer.{Got, Bad}
 use Rattle.c_meaning.specs.Types.{alike}
 use Rattle.c_meaning.specs.Values.{leaf}
 use Rattle.c_evaluation.proofs.Binary.{equal_left, equal_right, equal_both}
-use Rattle.c_evaluation.specs.Halts.{said}
+use Rattle.c_cells.specs.Halts.{said}
 use Rattle.c_evaluation.specs.Values.{value_of, content_of, tree_in, type_in}
 use Rattle.c_evaluation.proofs.operate.equal.Goals as goal
 

@@ -2,7 +2,7 @@ use Rattle.std.proofs.Common.{◌≡◌, ◌∙◌, sym, ap}
 use Rattle.c_meaning.specs.Answer.{Got, Bad}
 use Rattle.c_meaning.specs.Values.{as_word}
 use Rattle.c_evaluation.proofs.Binary.{words_left, words_right}
-use Rattle.c_evaluation.specs.Halts.{said}
+use Rattle.c_cells.specs.Halts.{said}
 use Rattle.c_evaluation.specs.Values.{value_of}
 use Rattle.c_evaluation.specs.Operators.{of_words}
 use Rattle.c_evaluation.proofs.operate.on_words.Goals as goal

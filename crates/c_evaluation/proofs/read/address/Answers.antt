@@ -2,7 +2,7 @@ use Rattle.std.proofs.Common.{◌≡◌, ◌∙◌, sym, ap}
 use Rattle.c_meaning.specs.Answer.{Bad}
 use Rattle.c_meaning.specs.Evaluate as m
 use Rattle.c_meaning.specs.Evaluate.{View}
-use Rattle.c_evaluation.specs.Halts.{said}
+use Rattle.c_cells.specs.Halts.{said}
 use Rattle.c_evaluation.specs.Scopes.{view_at, site_of}
 use Rattle.c_evaluation.proofs.Reading.{address_bad}
 use Rattle.c_evaluation.proofs.read.address.Goals as goal

@@ -3,7 +3,7 @@ use Rattle.c_meaning.specs.Answer.{Bad}
 use Rattle.c_meaning.specs.Values as w
 use Rattle.c_meaning.specs.Evaluate as m
 use Rattle.c_meaning.specs.Evaluate.{View}
-use Rattle.c_evaluation.specs.Halts.{said}
+use Rattle.c_cells.specs.Halts.{said}
 use Rattle.c_evaluation.specs.Types.{object_of}
 use Rattle.c_evaluation.specs.Values.{value_of, content_of, tree_in}
 use Rattle.c_evaluation.specs.Scopes.{view_at}

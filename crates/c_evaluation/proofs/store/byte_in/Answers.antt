@@ -1,7 +1,7 @@
 use Rattle.std.proofs.Common.{◌≡◌, ◌∙◌, sym, ap, subst, ℕ}
 use Rattle.c_meaning.specs.Answer.{Got}
 use Rattle.c_meaning.specs.Values as w
-use Rattle.c_evaluation.specs.Halts.{said, Tells}
+use Rattle.c_cells.specs.Halts.{said, Tells}
 use Rattle.c_evaluation.specs.Stores.{byte_of_number}
 use Rattle.c_evaluation.specs.Values.{value_of}
 use Rattle.c_evaluation.proofs.Taking.{some_put}

@@ -5,11 +5,11 @@ use Rattle.c_meaning.specs.Evaluate as m
 use Rattle.c_meaning.specs.Evaluate.{View}
 use Rattle.c_meaning.specs.States.{view}
 use Rattle.c_meaning.specs.Steps.{taken, put_root, put_value}
-use Rattle.c_evaluation.specs.Halts.{said}
+use Rattle.c_cells.specs.Halts.{said}
 use Rattle.c_evaluation.specs.Values.{value_of}
 use Rattle.c_evaluation.specs.Scopes.{view_at, site_of, names_at}
 use Rattle.c_evaluation.proofs.Taking.{root_put, root_not_put, no_store, store_with}
-use Rattle.c_evaluation.specs.declared.halt.Halt.TheVariants.{Stuck}
+use Rattle.c_cells.specs.declared.halt.Halt.TheVariants.{Stuck}
 use Rattle.c_evaluation.specs.declared.store.Store.{Store}
 use Rattle.c_evaluation.proofs.store.put_value.Goals as goal
 

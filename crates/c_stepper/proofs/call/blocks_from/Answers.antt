@@ -1,4 +1,4 @@
-use Rattle.std.proofs.Common.{◌≡◌, ◌+◌, ◌∙◌, ◌++◌, ◌∷◌, [], Some, sym, ap, subst, drop, length, reverse, arith, List}
+use Rattle.std.proofs.Common.{◌≡◌, ◌+◌, ◌∙◌, ◌∷◌, [], Some, sym, ap, length, reverse, arith, List}
 use Rattle.std.proofs.lemmas.List.{length-append}
 use Rattle.std.specs.Prelude.{Bool, true, false}
 use Rattle.c_tree.specs.declared.program.CVariable.{CVariable}
@@ -56,11 +56,11 @@ loop-rest-preserved c =
     let split : rest ≡ q ∷ tail_of rest = cons_of rest q (omega arith) c.first-item.is in
     let popped : reverse (values_of c.loop-rest.left) ≡ value_of x ∷ left = ap (λ (l : List Value). reverse (values_of l)) c.in-Some.ensures ∙ values_pop c.pop.new.self x in
     record {
-      same = ap (λ (bs : Blocks). with_blocks ds bs (tail_of rest) left) c.in_ok-push.ensures.ok
+      same = ap (λ (bs : Blocks). with_blocks ds bs (tail_of rest) left) c.in_ok-push.ensures
           ∙ sym (block_next ds done q (tail_of rest) (value_of x) left b c.in_ok-parameter_block.ensures)
           ∙ ap (λ (xs : List w.Value). with_blocks ds done (q ∷ tail_of rest) xs) (sym popped) ∙ ap (λ (qs : List CVariable). with_blocks ds done qs (reverse (values_of c.loop-rest.left))) (sym split) ∙ c.loop-rest.invariant.same;
       length =
-          let more : length c.push.new.self ≡ length done + 1 = ap length c.in_ok-push.ensures.ok ∙ length-append done (Some b ∷ []) in
+          let more : length c.push.new.self ≡ length done + 1 = ap length c.in_ok-push.ensures ∙ length-append done (Some b ∷ []) in
           let fewer = length_of rest q (tail_of rest) split in
           omega (arith, more, fewer, c.loop-rest.invariant.length);
     }

@@ -1,7 +1,6 @@
 use Rattle.std.proofs.Common.{ℕ, Option}
 use Rattle.c_meaning.specs.Evaluate as e
 use Rattle.c_meaning.specs.Evaluate.{View}
-use Rattle.c_meaning.specs.Answer.{◌>>=◌}
 use Rattle.c_meaning.specs.Steps as n
 use Rattle.c_evaluation.specs.Values.{values_of}
 use Rattle.c_evaluation.specs.Scopes.{view_at}

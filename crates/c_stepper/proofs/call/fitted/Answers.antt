@@ -1,10 +1,10 @@
-use Rattle.std.proofs.Common.{◌≡◌, ◌∙◌, sym, ap, subst, List, Some, Err, Ok}
+use Rattle.std.proofs.Common.{◌≡◌, ◌∙◌, ap, subst, List, Some, Err}
 use Rattle.c_tree.specs.Tree.{Statement}
 use Rattle.c_tree.specs.declared.program.CVariable.{CVariable}
 use Rattle.c_meaning.specs.Cells.{Blocks}
 use Rattle.c_meaning.specs.Answer.{Got, ◌>>=◌}
 use Rattle.c_meaning.specs.Steps.{parameter_blocks}
-use Rattle.c_evaluation.specs.Halts.{Tells}
+use Rattle.c_cells.specs.Halts.{Tells}
 use Rattle.c_evaluation.specs.Values.{values_of}
 use Rattle.c_evaluation.proofs.Evaluations.{exit}
 use Rattle.c_stepper.specs.Runners.{target_of, parts_at}

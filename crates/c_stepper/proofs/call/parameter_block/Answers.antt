@@ -1,9 +1,9 @@
-use Rattle.std.proofs.Common.{◌≡◌, sym, ap, subst, false, Ok, Err}
+use Rattle.std.proofs.Common.{◌≡◌, ap, subst, false, Ok, Err}
 use Rattle.c_tree.specs.Tree.{ObjectType}
 use Rattle.c_meaning.specs.Cells.{Tree, Block}
-use Rattle.c_meaning.specs.Answer.{Answer, Got}
+use Rattle.c_meaning.specs.Answer.{Got}
 use Rattle.c_meaning.specs.Values.{converted}
-use Rattle.c_evaluation.specs.Halts.{Tells}
+use Rattle.c_cells.specs.Halts.{Tells}
 use Rattle.c_evaluation.specs.Values.{value_of}
 use Rattle.c_evaluation.proofs.Evaluations.{exit, onward_with}
 use Rattle.c_stepper.proofs.call.parameter_block.Goals as goal

@@ -3,7 +3,7 @@ use Rattle.c_meaning.specs.Cells.{Blocks}
 use Rattle.c_meaning.specs.Values as w
 use Rattle.c_meaning.specs.Steps.{parameter_blocks}
 use Rattle.c_evaluation.specs.declared.value.Value.{Value}
-use Rattle.c_evaluation.specs.Halts.{Tells}
+use Rattle.c_cells.specs.Halts.{Tells}
 use Rattle.c_evaluation.specs.Values.{values_of}
 use Rattle.c_stepper.proofs.Calling.{values_reverse}
 use Rattle.c_stepper.proofs.call.parameter_blocks.Goals as goal

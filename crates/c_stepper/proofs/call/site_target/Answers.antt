@@ -2,7 +2,7 @@ use Rattle.std.proofs.Common.{◌≡◌, ◌∙◌, ℕ, sym, ap, subst}
 use Rattle.c_meaning.specs.Answer.{Got, Bad}
 use Rattle.c_meaning.specs.Evaluate as m
 use Rattle.c_meaning.specs.Evaluate.{View}
-use Rattle.c_evaluation.specs.Halts.{said, Tells}
+use Rattle.c_cells.specs.Halts.{said, Tells}
 use Rattle.c_evaluation.specs.Scopes.{view_at, site_of}
 use Rattle.c_stepper.specs.Runners.{target_of}
 use Rattle.c_stepper.proofs.Calling.{no_target, some_target}

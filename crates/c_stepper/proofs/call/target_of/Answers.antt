@@ -3,7 +3,7 @@ use Rattle.c_tree.specs.Tree as t
 use Rattle.c_meaning.specs.Evaluate as m
 use Rattle.c_meaning.specs.Evaluate.{View}
 use Rattle.c_meaning.specs.Steps as n
-use Rattle.c_evaluation.specs.Halts.{Tells}
+use Rattle.c_cells.specs.Halts.{Tells}
 use Rattle.c_evaluation.specs.Scopes.{view_at, site_of}
 use Rattle.c_evaluation.proofs.Evaluations.{exit, onward_with}
 use Rattle.c_stepper.specs.Runners.{target_of}

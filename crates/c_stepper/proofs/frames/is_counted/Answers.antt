@@ -2,7 +2,7 @@ use Rattle.std.proofs.Common.{◌≡◌, ◌∙◌, ap, sym, Option, None}
 use Rattle.std.specs.Option.{option_copied, is_some}
 use Rattle.std.specs.Prelude.{slice_get}
 use Rattle.c_tree.specs.declared.program.CFunction.{CFunction}
-use Rattle.c_meaning.specs.Entries.{Outside, number_at_end, number_after, tail_number}
+use Rattle.c_meaning.specs.Entries.{number_at_end, number_after, tail_number}
 use Rattle.c_stepper.specs.Runners.{name_of}
 use Rattle.c_stepper.proofs.frames.is_counted.Goals as goal
 

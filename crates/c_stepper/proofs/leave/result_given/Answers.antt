@@ -1,7 +1,7 @@
-use Rattle.std.proofs.Common.{◌≡◌, ◌∙◌, sym, ap, Option}
+use Rattle.std.proofs.Common.{◌∙◌, sym, ap, Option}
 use Rattle.std.specs.Option.{option_map}
 use Rattle.c_meaning.specs.Cells.{Tree}
-use Rattle.c_meaning.specs.Answer.{Answer, Got, ◌>>=◌}
+use Rattle.c_meaning.specs.Answer.{Got, ◌>>=◌}
 use Rattle.c_meaning.specs.Values as w
 use Rattle.c_meaning.specs.Steps.{result_of}
 use Rattle.c_evaluation.specs.declared.types.Object.{Object}

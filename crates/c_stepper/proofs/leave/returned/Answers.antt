@@ -5,9 +5,8 @@ use Rattle.c_meaning.specs.Answer.{Got, ◌>>=◌}
 use Rattle.c_meaning.specs.Evaluate as m
 use Rattle.c_meaning.specs.Evaluate.{View}
 use Rattle.c_meaning.specs.States.{view}
-use Rattle.c_meaning.specs.Values as w
 use Rattle.c_meaning.specs.Steps as n
-use Rattle.c_evaluation.specs.Halts.{Tells}
+use Rattle.c_cells.specs.Halts.{Tells}
 use Rattle.c_evaluation.specs.Scopes.{view_at}
 use Rattle.c_evaluation.specs.Types.{object_of}
 use Rattle.c_evaluation.specs.Values.{value_of}

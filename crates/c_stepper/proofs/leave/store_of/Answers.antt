@@ -1,4 +1,4 @@
-use Rattle.std.proofs.Common.{◌≡◌, ap, List, ℕ, Ok, Some}
+use Rattle.std.proofs.Common.{ap, List, ℕ, Ok, Some}
 use Rattle.c_meaning.specs.Cells.{Tree}
 use Rattle.c_meaning.specs.States as s
 use Rattle.c_meaning.specs.Steps.{taken}

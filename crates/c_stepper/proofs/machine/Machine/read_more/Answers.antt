@@ -1,6 +1,6 @@
 use Rattle.std.proofs.Common.{◌≡◌, ◌≤◌, ◌++◌, ◌∙◌, [], sym, subst, Some, inr, List, ℕ, Bool, true, false, Result, length}
 use Rattle.c_meaning.specs.Steps.{CStep}
-use Rattle.c_evaluation.specs.declared.halt.Halt.{Halt}
+use Rattle.c_cells.specs.declared.halt.Halt.{Halt}
 use Rattle.held_bytes.specs.Held.{bytes_in}
 use Rattle.c_stepper.specs.Runners.{state_of, AsksForByte, Seeks}
 use Rattle.c_stepper.specs.Machines.{stood, Steps}

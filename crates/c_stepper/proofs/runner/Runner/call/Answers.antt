@@ -1,12 +1,11 @@
-use Rattle.std.proofs.Common.{◌≡◌, ◌+◌, ◌∙◌, sym, ap, subst}
+use Rattle.std.proofs.Common.{◌+◌, sym, subst}
 use Rattle.c_tree.specs.Tree as t
-use Rattle.c_meaning.specs.Answer.{Got}
 use Rattle.c_meaning.specs.Evaluate.{View}
 use Rattle.c_meaning.specs.States.{State}
-use Rattle.c_meaning.specs.Steps.{Onward, do_statement}
+use Rattle.c_meaning.specs.Steps.{do_statement}
 use Rattle.c_stepper.specs.Spots.{todo_at}
 use Rattle.c_stepper.specs.Runners.{state_of, runner_view, body_at, Acts}
-use Rattle.c_stepper.specs.Calls.{entered, entered_of, entered_state}
+use Rattle.c_stepper.specs.Calls.{entered, entered_of}
 use Rattle.c_stepper.proofs.Acting.{stops}
 use Rattle.c_stepper.proofs.Entering.{calls_stuck, calls_enter}
 use Rattle.c_stepper.proofs.runner.Runner.call.Goals as goal

@@ -6,7 +6,7 @@ use Rattle.c_meaning.specs.Evaluate.{View}
 use Rattle.c_meaning.specs.States.{State}
 use Rattle.c_meaning.specs.Todo.{onto}
 use Rattle.c_meaning.specs.Steps.{Onward, do_statement, to_do}
-use Rattle.c_evaluation.specs.Halts.{Tells}
+use Rattle.c_cells.specs.Halts.{Tells}
 use Rattle.c_stepper.specs.Spots.{todo_at, todo_of}
 use Rattle.c_evaluation.specs.Stores.{chosen}
 use Rattle.c_stepper.specs.Runners.{state_of, runner_view, body_at}

@@ -1,11 +1,11 @@
-use Rattle.std.proofs.Common.{◌≡◌, ◌+◌, ◌∙◌, ◌++◌, ◌∷◌, [], refl, sym, ap, subst, arith, List, Some}
+use Rattle.std.proofs.Common.{◌≡◌, ◌+◌, ◌∙◌, ◌++◌, ◌∷◌, [], sym, ap, subst, arith, List}
 use Rattle.c_meaning.specs.Cells.{Blocks}
 use Rattle.c_stepper.specs.declared.runner.Frame.{Frame}
 use Rattle.c_stepper.specs.declared.runner.Runner.{Runner}
 use Rattle.c_stepper.specs.Spots.{todo_at}
 use Rattle.c_stepper.specs.Runners.{target_of, state_of, frame_of, body_at, FitsFrame}
 use Rattle.c_stepper.specs.Guides.{IsGuide}
-use Rattle.c_stepper.specs.Calls.{entered_of, entered_state}
+use Rattle.c_stepper.specs.Calls.{entered_state}
 use Rattle.c_stepper.proofs.Entering.{begins, fits_begun, entry_done_is}
 use Rattle.c_stepper.proofs.runner.Runner.enter.Goals as goal
 

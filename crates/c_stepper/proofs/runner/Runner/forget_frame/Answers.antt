@@ -1,4 +1,4 @@
-use Rattle.std.proofs.Common.{◌≡◌, ◌+◌, ◌∙◌, ◌++◌, ap, List, length}
+use Rattle.std.proofs.Common.{◌+◌, ◌∙◌, ◌++◌, ap, List, length}
 use Rattle.c_tree.specs.Tree.{Statement}
 use Rattle.c_tree.specs.declared.program.CVariable.{CVariable}
 use Rattle.c_meaning.specs.Cells.{Blocks}

@@ -1,4 +1,4 @@
-use Rattle.std.proofs.Common.{◌≡◌, ◌+◌, ◌∙◌, sym, ap}
+use Rattle.std.proofs.Common.{◌≡◌, ◌+◌, ◌∙◌, sym, ap, subst}
 use Rattle.c_tree.specs.Tree as t
 use Rattle.c_tree.specs.Tree.{Statement, body_of}
 use Rattle.c_meaning.specs.Answer.{Got}
@@ -8,7 +8,7 @@ use Rattle.c_meaning.specs.Steps.{do_statement, to_do}
 use Rattle.c_meaning.specs.Steps.{after_byte}
 use Rattle.c_stepper.specs.Spots.{todo_at}
 use Rattle.c_stepper.specs.Runners.{state_of, runner_view, body_at}
-use Rattle.c_meaning.specs.Answer.{Bad}
+use Rattle.c_cells.specs.Halts.{Refuses}
 use Rattle.c_meaning.specs.States.{store}
 use Rattle.c_evaluation.specs.Stores.{byte_stored}
 use Rattle.c_stepper.proofs.Acting.{stops_store, refused, read_in, read_none}
@@ -33,10 +33,10 @@ returns-in_err-store-clause-act c = λ input output calls is.
     let st : State = state_of p old input output calls in
     let rest = todo_at (body_at p old.frame) old.frame.spot.outer.items (old.frame.spot.at + 1) in
     let a = byte_stored v c.args.place.now c.args.byte in
-    let kind = c.in_err-store.field-0.0 in
+    let e = c.in_err-store.field-0.0 in
     let path : c.as_slice.result.now ≡ c.in_ok-number.field-0.path = cc in
-    let bad : a ≡ Bad kind = sym c.in_ok-number.ensures ∙ ap (λ q. store old.memory c.in_ok-number.field-0.number q c.in_ok-number.field-0.tree) (sym path) ∙ c.in_err-store.ensures.refused in
-    refused p (record old { memory = c.store.new.self }) (after_byte input) output calls kind c.from_residual-in_err-store.result (do_statement p v st rest (t.GetChar c.args.place.now)) c.from_residual-in_err-store.ensures.1 (read_none p v st rest c.args.place.now kind c.args.byte is bad)
+    let same = ap (λ q. store old.memory c.in_ok-number.field-0.number q c.in_ok-number.field-0.tree) path ∙ c.in_ok-number.ensures in
+    refused p (record old { memory = c.store.new.self }) (after_byte input) output calls e c.from_residual-in_err-store.result a (do_statement p v st rest (t.GetChar c.args.place.now)) c.from_residual-in_err-store.ensures.1 (subst (Refuses e) same c.in_err-store.ensures.refused) (λ kind h. read_none p v st rest c.args.place.now kind c.args.byte is h)
 
 pub returns-clause-act : goal.returns-clause-act
 unfolding to_do

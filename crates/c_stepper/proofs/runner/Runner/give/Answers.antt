@@ -1,4 +1,4 @@
-use Rattle.std.proofs.Common.{◌≡◌, ◌+◌, ◌∙◌, sym, ap, subst}
+use Rattle.std.proofs.Common.{◌+◌, sym, subst}
 use Rattle.std.specs.Option.{option_map}
 use Rattle.c_tree.specs.Tree as t
 use Rattle.c_meaning.specs.Evaluate.{View}

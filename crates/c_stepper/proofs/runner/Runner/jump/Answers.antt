@@ -1,12 +1,9 @@
-use Rattle.std.proofs.Common.{◌≡◌, ◌∙◌, sym, ap, List, Some, None, ℕ}
+use Rattle.std.proofs.Common.{◌≡◌, ◌∙◌, sym, ap, Some, None}
 use Rattle.std.specs.Option.{option_map}
-use Rattle.c_tree.specs.Tree.{Statement}
 use Rattle.c_meaning.specs.declared.StuckKind.TheVariants as k
 use Rattle.c_meaning.specs.Answer.{or_bad, ◌>>=◌}
 use Rattle.c_meaning.specs.States.{State}
-use Rattle.c_meaning.specs.Todo.{from_label_of}
 use Rattle.c_meaning.specs.Steps.{do_statement, to_do, go_on, next}
-use Rattle.label_ways.specs.declared.level.Level.{Level}
 use Rattle.label_ways.specs.Labels.{path_of}
 use Rattle.label_ways.specs.Ways.{way_of}
 use Rattle.c_stepper.specs.Spots.{todo_at}

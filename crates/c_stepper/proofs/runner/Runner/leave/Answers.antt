@@ -1,4 +1,4 @@
-use Rattle.std.proofs.Common.{◌≡◌, ◌∙◌, ◌++◌, ◌∷◌, [], sym, ap, subst, List}
+use Rattle.std.proofs.Common.{◌≡◌, ◌∙◌, ◌∷◌, [], sym, ap, subst, List}
 use Rattle.std.specs.Option.{option_map}
 use Rattle.c_meaning.specs.States as s
 use Rattle.c_meaning.specs.States.{State}

@@ -1,6 +1,7 @@
-use Rattle.std.proofs.Common.{◌≡◌, ◌∙◌, ◌∷◌, [], sym, ap, List}
+use Rattle.std.proofs.Common.{◌≡◌, ◌∙◌, ◌∷◌, [], sym, ap, subst, List}
 use Rattle.std.specs.Option.{option_map}
-use Rattle.c_meaning.specs.Answer.{Got, Bad}
+use Rattle.c_meaning.specs.Answer.{Got}
+use Rattle.c_cells.specs.Halts.{Refuses}
 use Rattle.c_meaning.specs.Cells.{Blocks}
 use Rattle.c_meaning.specs.States as s
 use Rattle.c_meaning.specs.States.{State, without}
@@ -32,10 +33,11 @@ returns-in_err-put_answer-clause-act c = λ input output calls.
     let g = frame_of p c.args.frame in
     let answer = option_map given_of c.args.answer.now in
     let blocks = without st.frame.names st.blocks in
-    let kind = c.in_err-put_answer.field-0.0 in
+    let e = c.in_err-put_answer.field-0.0 in
     let memory : c.forget_frame.new.self.memory ≡ blocks = ap (λ (it : Runner). it.memory) c.forget_frame.ensures in
-    let bad : answered p.declarations blocks st.frame.target answer ≡ Bad kind = sym (c.in_ok-store.ensures blocks) ∙ ap (λ (m : Blocks). stored_in m c.in_ok-store.store) (sym memory) ∙ c.in_err-put_answer.ensures.refused in
-    refused p (record c.forget_frame.new.self { memory = c.put_answer.new.memory }) input output calls kind c.from_residual-in_err-put_answer.result (leave_to p st (g ∷ below) answer) c.from_residual-in_err-put_answer.ensures.1 (leaves_stuck p st g below answer kind bad)
+    let a = answered p.declarations blocks st.frame.target answer in
+    let same = ap (λ (m : Blocks). stored_in m c.in_ok-store.store) memory ∙ c.in_ok-store.ensures blocks in
+    refused p (record c.forget_frame.new.self { memory = c.put_answer.new.memory }) input output calls e c.from_residual-in_err-put_answer.result a (leave_to p st (g ∷ below) answer) c.from_residual-in_err-put_answer.ensures.1 (subst (Refuses e) same c.in_err-put_answer.ensures.refused) (λ kind h. leaves_stuck p st g below answer kind h)
 
 pub returns-clause-act : goal.returns-clause-act
 returns-clause-act c = λ input output calls.

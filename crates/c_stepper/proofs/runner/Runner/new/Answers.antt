@@ -1,4 +1,4 @@
-use Rattle.std.proofs.Common.{◌≡◌, ◌∙◌, ◌++◌, [], None, refl, sym, ap, length, true, false}
+use Rattle.std.proofs.Common.{◌≡◌, ◌∙◌, ◌++◌, None, refl, ap, length, true, false}
 use Rattle.c_meaning.specs.Fresh.{fresh_blocks}
 use Rattle.c_meaning.specs.Cells.{Blocks}
 use Rattle.c_stepper.specs.declared.runner.Target.TheVariants as g

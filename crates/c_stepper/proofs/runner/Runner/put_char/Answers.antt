@@ -5,7 +5,7 @@ use Rattle.c_meaning.specs.Answer.{Got}
 use Rattle.c_meaning.specs.Evaluate.{View}
 use Rattle.c_meaning.specs.States.{State}
 use Rattle.c_meaning.specs.Steps.{do_statement, to_do}
-use Rattle.c_evaluation.specs.Halts.{Tells}
+use Rattle.c_cells.specs.Halts.{Tells}
 use Rattle.c_stepper.specs.Spots.{todo_at}
 use Rattle.c_evaluation.specs.Stores.{byte_put}
 use Rattle.c_stepper.specs.Runners.{state_of, runner_view, body_at}

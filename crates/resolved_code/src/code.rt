@@ -1,0 +1,34 @@
+//! Resolved statements.
+
+use c_evaluation::numbers::{Number, Variable};
+
+/// What a statement does, where numbers and variables of `int64_t` say it.
+#[derive(Drop)]
+pub enum Resolved {
+    /// `variable = number;`
+    Store(Variable, Number),
+    /// The test of a `while`, or of an `if` without `else`.
+    Test(Number),
+    /// The test of an `if` with `else`.
+    Choose(Number),
+    /// `return number;`
+    Give(Number),
+    /// Any other statement.
+    Other,
+}
+
+/// A statement, with the places at which the nodes of its branches begin.
+#[derive(Drop)]
+pub struct Node {
+    pub resolved: Resolved,
+    pub first: usize,
+    pub second: usize,
+}
+
+/// The statements of a function's text: the nodes of each list stand side by side, and those of
+/// the whole body begin at `start`.
+#[derive(Drop)]
+pub struct Code {
+    pub nodes: Vec<Node>,
+    pub start: usize,
+}

@@ -1,0 +1,2 @@
+pub mod TreeNodes
+pub mod Firsts
