@@ -23,7 +23,7 @@ use Rattle.expr_parser.specs.Classes.{identifiers, numbers, texts, signs, symbol
 use Rattle.expr_parser.specs.Expressions.{optional_sign}
 use Rattle.expr_parser.proofs.Layouts.{spell, spell_join}
 use Rattle.expr_parser.proofs.Followed.{Until, Along, Followed, on_first, follow_then, follow_pure, follow_token, follow_first, follow_second, follow_not, begun_token, looks_at, Looks}
-use Rattle.expr_parser.proofs.FollowedParts.{Part, along_as}
+use Rattle.expr_parser.proofs.FollowedParts.{Part, along_as, and_in}
 use Rattle.expr_parser.proofs.FollowedLists.{commas_followed}
 use Rattle.expr_parser.proofs.Lookahead.{looks_name, looks_text, looks_sign, looks_symbol, on_name, on_text, on_symbol, on_sign, on_sign_here, on_symbol_here, accepts_name, accepts_number, accepts_text, accepts_sign, accepts_symbol}
 use Rattle.expr_parser.specs.Dialects.{has_named_labels, has_label_ranges}
@@ -42,16 +42,12 @@ no_name dialect.Hp = refl
 pub looks_named : (d : Dialect) → Looks (begins_named_label d) (λ x. has_named_labels d && on_name x)
 looks_named d = record { none = ap (λ b. has_named_labels d && b) looks_name.none ∙ no_name d; some = λ t s. ap (λ b. has_named_labels d && b) (looks_name.some t s) }
 
-pub and_true : (b : Bool) → IsTrue b → (b && true) ≡ true
-and_true true h = refl
-and_true false h = h
-
 pub label_followed : (n : Until) (W : Type 0) (d : Dialect) (end : Span) (l : Label) → IsTrue (formed_label d l) → (rest : List Token) (s : List Placed) → Along n (spell (write_label l) rest) s → Followed n W rest (label d end s)
 unfolding label named_label number_label
 label_followed n W d end (a_label.Number v span) formed rest s h =
     follow_second (begins_named_label d s) _ _ (looks_at (looks_named d) h ∙ no_name d) (follow_token numbers (accepts_number v) h (λ x. λ n r k. pure_shrinks _ n r k) (λ x r h. follow_pure _ h))
 label_followed n W d end (a_label.Name i) formed rest s h =
-    follow_first (begins_named_label d s) _ _ (looks_at (looks_named d) h ∙ and_true (has_named_labels d) formed) (follow_token identifiers (accepts_name i.name) h (λ x. pure_shrinks _) (λ x r h. follow_pure _ h))
+    follow_first (begins_named_label d s) _ _ (looks_at (looks_named d) h ∙ and_in (has_named_labels d) true formed refl) (follow_token identifiers (accepts_name i.name) h (λ x. pure_shrinks _) (λ x r h. follow_pure _ h))
 
 -- ---- constants
 
@@ -117,7 +113,7 @@ module _ (n : Until) (W : Type 0) (d : Dialect) (end : Span) (k : ℕ) where
       and_last true b e = e
       and_last false b e = absurd cc
   last_followed (Some c) formed rest ends s h =
-      follow_first (begins_range d s) _ _ (looks_at (looks_range d) h ∙ ap (λ b. has_label_ranges d && b) (on_symbol_here mark.DotDot) ∙ and_true (has_label_ranges d) formed)
+      follow_first (begins_range d s) _ _ (looks_at (looks_range d) h ∙ ap (λ b. has_label_ranges d && b) (on_symbol_here mark.DotDot) ∙ and_in (has_label_ranges d) true formed refl)
       (follow_token (symbols mark.DotDot) (accepts_symbol mark.DotDot) h (λ _. then_shrinks (constant_shrinks d end) (λ c. pure_shrinks _)) (λ _ r h.
       follow_then (constant_followed n W end c rest r h) (λ c. pure_shrinks _) (λ c r h. follow_pure _ h)))
 

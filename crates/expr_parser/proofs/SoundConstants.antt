@@ -28,10 +28,7 @@ use Rattle.expr_parser.proofs.SoundLists.{ReadsList, list_sound}
 use Rattle.expr_parser.specs.Dialects.{has_named_labels, has_label_ranges}
 use Rattle.expr_parser.specs.ConstantNodes.{write_label, write_constant, write_case_label, formed_label, formed_last, formed_case_label}
 use Rattle.expr_parser.specs.Constants.{named_label, number_label, begins_named_label, label, text_constant, name_constant, number_constant, unsigned_constant, signed_constant, constant, begins_range, optional_last, case_label_of, case_label, next_case_label, more_case_labels, case_labels}
-
-both : (a b : Bool) → (a && b) ≡ true → (a ≡ true) × (b ≡ true)
-both true b e = (refl, e)
-both false b e = absurd cc
+use Rattle.expr_parser.proofs.FollowedParts.{and_out}
 
 module _ (d : Dialect) {C : Type 0} (layout : C → Layout) (form : C → Bool) (end : Span) (outer levels : ℕ) (tokens : List Placed) (known : AreTokens d (plain tokens)) (k : ℕ) where
   abbrev AnswerT : {A : Type 0} → (A → List Placed → Type 0) → Outcome Placed A → Type 0
@@ -54,7 +51,7 @@ module _ (d : Dialect) {C : Type 0} (layout : C → Layout) (form : C → Bool) 
   pub label_sound : (o : Opening) (s : List Placed) → SpotT o s → Hole d layout form write_label (formed_label d) o → AnswerT (ReadsT write_label (formed_label d) s) (label d end s)
   unfolding label named_label number_label
   label_sound o s spot hole = fair_either (begins_named_label d s)
-      (λ test. let named = both (has_named_labels d) (begins identifiers s) test in
+      (λ test. let named = and_out (has_named_labels d) (begins identifiers s) test in
       answer_begun d layout form end outer levels tokens identifiers s named.1 (λ t i r is e.
       reads (a_label.Name i) r (record { written = written_name end i t r e (identifier_is t.token t.span i is); formed = named.0; fits = omega arith })))
       (λ none. answer_token d layout form end outer levels tokens numbers s spot (begins_at d layout form end outer levels tokens spot hole (a_label.Number (pos 1) end) refl (number_known d, tt)) (λ t v r is e.
@@ -106,7 +103,7 @@ module _ (d : Dialect) {C : Type 0} (layout : C → Layout) (form : C → Bool) 
   last_sound : (o : Opening) (s : List Placed) → SpotT o s → Hole d layout form write_last (formed_last d) o → AnswerT (ReadsT write_last (formed_last d) s) (optional_last d end s)
   unfolding optional_last
   last_sound o s spot hole = fair_either (begins_range d s)
-      (λ test. let has = both (has_label_ranges d) (begins (symbols mark.DotDot) s) test in
+      (λ test. let has = and_out (has_label_ranges d) (begins (symbols mark.DotDot) s) test in
       answer_mark d layout form end outer levels tokens mark.DotDot s has.1 (λ _ r w.
       let hole1 : Hole d layout form write_constant AnyConstant (within o (behind (symbol mark.DotDot))) = record { at = λ c ok. hole.at (Some c) has.0 } in
       fair_then (constant_sound (within o (behind (symbol mark.DotDot))) r (moved (symbol mark.DotDot) spot w) hole1) (λ c r2 h.

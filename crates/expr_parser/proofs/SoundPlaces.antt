@@ -37,7 +37,7 @@ use Rattle.expr_parser.proofs.SoundTerms.{reads_as}
 
 -- ---- a place that may stand where one is wanted
 
-abbrev a_name : Identifier
+abbrev pub a_name : Identifier
 a_name = record { name = 97 ∷ []; span = record { file = 0; start = 0; end = 0; line = 0 } }
 
 abbrev pub a_place : Place

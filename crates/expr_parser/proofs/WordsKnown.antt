@@ -21,6 +21,7 @@ use Rattle.dialect_lexer.specs.declared.token.Word.{Word as WordSymbol}
 use Rattle.dialect_lexer.specs.declared.token.Symbol.{Symbol as SpecialSymbol}
 use Rattle.expr_parser.specs.Tokens.{Word, token_of, spelling_of, seen, plain}
 use Rattle.expr_parser.specs.Grammar.{IsToken}
+use Rattle.expr_parser.proofs.FollowedParts.{and_out}
 
 -- ---- pieces
 
@@ -45,10 +46,6 @@ no_symbol : (o : Option SpecialSymbol) (w : WordSymbol) → as_piece o ≡ Some 
 no_symbol None w e = absurd cc
 no_symbol (Some s) w e = absurd cc
 
-first_of : (a b : Bool) → (a && b) ≡ true → a ≡ true
-first_of true b e = refl
-first_of false b e = absurd cc
-
 no_parenthesis : (d : Dialect) (more : List ℕ) (w : WordSymbol) → parenthesis d more ≡ Some (piece_kind.Token (kind.Word w)) → ⊥
 unfolding parenthesis
 no_parenthesis d [] w e = absurd cc
@@ -68,7 +65,7 @@ word_form : (d : Dialect) (x : Start) (b : ℕ) (more : List ℕ) (w : WordSymbo
 unfolding form_by word_of
 word_form d start.Name b more w e =
     let test : WordSymbol → Bool = λ v. is_word_in d v && bytes_eq (word_bytes v) (str_to_ascii_lowercase (b ∷ more)) in
-    first_of (is_word_in d w) (bytes_eq (word_bytes w) (str_to_ascii_lowercase (b ∷ more))) (found test (words_with (to_ascii_lowercase b)) w (named_is (word_of d b more) w (where_is _ _ _ e)))
+    (and_out (is_word_in d w) (bytes_eq (word_bytes w) (str_to_ascii_lowercase (b ∷ more))) (found test (words_with (to_ascii_lowercase b)) w (named_is (word_of d b more) w (where_is _ _ _ e)))).0
 word_form d start.Decimal b more w e = let h = where_is _ _ _ e in absurd cc
 word_form d start.Space b more w e = let h = where_is _ _ _ e in absurd cc
 word_form d start.Quote b more w e = let h = where_is _ _ _ e in absurd cc

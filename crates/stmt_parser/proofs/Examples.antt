@@ -1,5 +1,5 @@
 -- Worked examples.
-use Rattle.std.proofs.Common.{◌≡◌, ℕ, suc, pos, List, [], ◌∷◌, Option, Some, None, Ok, Err, refl}
+use Rattle.std.proofs.Common.{◌≡◌, ℕ, suc, [], ◌∷◌, Option, Some, None, Ok, Err, refl}
 use Rattle.p2c_text.specs.declared.dialect.Dialect.TheVariants.{Iso}
 use Rattle.p2c_text.specs.declared.place.Span.{Span}
 use Rattle.dialect_lexer.specs.declared.token.Word.TheVariants as word_
@@ -11,7 +11,7 @@ use Rattle.pascal_tree.specs.declared.statements.Plain.TheVariants as plain_
 use Rattle.pascal_tree.specs.declared.statements.Stmt.{Stmt}
 use Rattle.token_parsing.specs.declared.refusal.Refusal.TheVariants.{Unexpected, TooDeep}
 use Rattle.token_parsing.specs.Parser.{one_of, begins, again, repeat}
-use Rattle.expr_parser.specs.Tokens.{Token, Placed, Name, Number, Word}
+use Rattle.expr_parser.specs.Tokens.{Token, Placed, Name, Word}
 use Rattle.expr_parser.specs.Spans.{span_between}
 use Rattle.expr_parser.specs.Classes.{same_word, same_symbol}
 use Rattle.expr_parser.specs.Constants.{label, number_label, optional_label}

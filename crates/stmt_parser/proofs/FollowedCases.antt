@@ -22,7 +22,7 @@ use Rattle.expr_parser.specs.Classes.{words, symbols, expect, expect_word, same_
 use Rattle.expr_parser.specs.Places.{made}
 use Rattle.expr_parser.proofs.Layouts.{spell, spell_join}
 use Rattle.expr_parser.proofs.Followed.{Until, Along, Followed, Begun, Looks, follow_then, follow_pure, follow_token, follow_first, follow_second, begun_token, looks_at}
-use Rattle.expr_parser.proofs.FollowedParts.{and_out, Part, part_as, part_first, part_second, part_right, part_left, part_inside, along_as, ExprFollowed}
+use Rattle.expr_parser.proofs.FollowedParts.{and_out, Part, part_as, part_first, part_second, part_right, part_left, part_inside, along_as, ExprFollowed, and_in}
 use Rattle.expr_parser.proofs.Lookahead.{looks_name, looks_word, looks_symbol, on_word, on_word_here, accepts_word, accepts_symbol}
 use Rattle.expr_parser.specs.Dialects.{has_rest}
 use Rattle.expr_parser.specs.Semicolons.{optional_semicolon as write_semicolon, with_semicolons}
@@ -108,10 +108,6 @@ no_rest dialect.Hp = refl
 looks_rest : (d : Dialect) → Looks (begins_rest d) (λ x. has_rest d && on_word (rest_word d) x)
 looks_rest d = record { none = ap (λ b. has_rest d && b) (looks_word (rest_word d)).none ∙ no_rest d; some = λ t s. ap (λ b. has_rest d && b) ((looks_word (rest_word d)).some t s) }
 
-and_true : (a b : Bool) → IsTrue a → b ≡ true → (a && b) ≡ true
-and_true true b h e = e
-and_true false b h e = absurd (true≢false (sym h))
-
 -- whether the other part is formed, where there is one
 abbrev rest_is_formed : Dialect → Option Rest → Bool
 rest_is_formed d None = true
@@ -143,7 +139,7 @@ module _ (n : Until) (W : Type 0) (d : Dialect) (end : Span) (k : ℕ) (child : 
   unfolding optional_rest
   optional_read None part w s h = follow_second (begins_rest d s) _ _ (looks_at (looks_rest d) h ∙ no_rest_at_end d) (follow_pure _ h)
   optional_read (Some r) part w s h =
-      follow_first (begins_rest d s) _ _ (looks_at (looks_rest d) (along_as (rest_spelled d r (Word word_.KwEnd ∷ w)) h) ∙ and_true (has_rest d) _ (and_out (has_rest d) (alone (formed_rest d r)) part.formed).0 (on_word_here (rest_word d)))
+      follow_first (begins_rest d s) _ _ (looks_at (looks_rest d) (along_as (rest_spelled d r (Word word_.KwEnd ∷ w)) h) ∙ and_in (has_rest d) _ (and_out (has_rest d) (alone (formed_rest d r)) part.formed).0 (on_word_here (rest_word d)))
       (follow_then (rest_read r (record { formed = (and_out (has_rest d) (alone (formed_rest d r)) part.formed).1; fits = part.fits }) w s h) (λ x. pure_shrinks _) (λ x r h. follow_pure _ h))
 
   -- what is read after the arms

@@ -19,6 +19,7 @@ use Rattle.expr_parser.specs.ConstantNodes.{write_label, formed_label}
 use Rattle.expr_parser.specs.Constants.{named_label, number_label, begins_named_label, label, begins_label, optional_label}
 use Rattle.expr_parser.proofs.FollowedConstants.{label_followed}
 use Rattle.stmt_parser.proofs.FollowedArms.{two_known, shorter_still}
+use Rattle.expr_parser.proofs.FollowedParts.{and_in, and_out}
 
 -- a text that begins without a label
 pub data NoLabel : List Token → Type 0 where
@@ -50,14 +51,6 @@ second_is true b c e f g = absurd cc
 second_is false true c e f g = g
 second_is false false c e f g = absurd cc
 
-and_true : (b : Bool) → IsTrue b → (b && true) ≡ true
-and_true true h = refl
-and_true false h = h
-
-and_both : (a b : Bool) → (a && b) ≡ true → (a ≡ true) × (b ≡ true)
-and_both true b e = (refl, e)
-and_both false b e = absurd cc
-
 -- ---- what a label takes
 
 -- a label and a colon
@@ -81,7 +74,7 @@ module _ (d : Dialect) (end : Span) where
   label_begun s e = by (begins_named_label d s) (begins numbers s) refl refl e
     where
       by : (a b : Bool) → begins_named_label d s ≡ a → begins numbers s ≡ b → (b || (a && begins (symbols mark.Colon) (rest s))) ≡ true → Shorter (length s) 0 (elim a [ true ↦ named_label s | false ↦ number_label end s ])
-      by true b f g e = named_begun s (and_both (has_named_labels d) (begins identifiers s) f).1
+      by true b f g e = named_begun s (and_out (has_named_labels d) (begins identifiers s) f).1
       by false true f g e = number_begun s g
       by false false f g e = absurd cc
 
@@ -102,7 +95,7 @@ module _ (d : Dialect) (end : Span) where
           → Shorter (length r) 0 (and_then (elim a [ true ↦ named_label (t ∷ r) | false ↦ number_label end (t ∷ r) ]) (λ l s. and_then (expect mark.Colon s) (λ _ s. Ok (Some l, s))))
       by a true f g e = absurd cc
       by false false f g e = absurd cc
-      by true false f g e = after_name (identifiers t) t r _ (and_both (has_named_labels d) (begins identifiers (t ∷ r)) f).1 (λ l. begun_token (symbols mark.Colon) r e (λ _. pure_shrinks _))
+      by true false f g e = after_name (identifiers t) t r _ (and_out (has_named_labels d) (begins identifiers (t ∷ r)) f).1 (λ l. begun_token (symbols mark.Colon) r e (λ _. pure_shrinks _))
 
 -- nothing of the text is left
 all_left : {n : Until} {s : List Placed} → Along n [] s → length s ≤ limit n
@@ -174,6 +167,6 @@ module _ {B : Type 0} (n : Until) (W : Type 0) (d : Dialect) (end : Span) (rest'
       by : (length s ≤ limit n) ⊎ ((t : Placed) × (r : List Placed) × (s ≡ t ∷ r) × Along n (Symbol mark.Colon ∷ w) r) → Followed n W rest' (and_then (optional_label d end s) f)
       by (inl most) = either_taken s most (taken (looks_at looks_name h))
       by (inr (t, r, is, known)) =
-          let named : begins_named_label d s ≡ true = ap (λ b. has_named_labels d && b) (looks_at looks_name h) ∙ and_true (has_named_labels d) formed in
+          let named : begins_named_label d s ≡ true = ap (λ b. has_named_labels d && b) (looks_at looks_name h) ∙ and_in (has_named_labels d) true formed refl in
           let colon : begins (symbols mark.Colon) (rest s) ≡ true = ap (λ z. begins (symbols mark.Colon) (rest z)) is ∙ looks_at (looks_symbol mark.Colon) known ∙ on_symbol_here mark.Colon in
           is_labelled s (second_is (begins numbers s) (begins_named_label d s) _ (looks_at looks_number h) named colon) (follow_then (labelled_followed (a_label.Name i) formed w s h) f_shrinks k)

@@ -41,7 +41,8 @@ use Rattle.stmt_parser.specs.Cases.{arm_of, arm, next_arm, begins_next_arm, more
 use Rattle.stmt_parser.proofs.WrittenStatements.{write_rest_part, write_arm_of, write_rest_of, write_case_of}
 use Rattle.stmt_parser.proofs.FormedStatements.{formed_rest_part, formed_arm_of, formed_rest_of, formed_case_of}
 use Rattle.stmt_parser.proofs.SoundRows.{else_next, ReadsOne, one_as, GoodOne, rows_sound}
-use Rattle.stmt_parser.proofs.SoundStatements.{no_span, empty, empty_written, empty_formed, empty_known, StmtGood, answer_wanted, plain_as, between_sound, stmts_sound}
+use Rattle.stmt_parser.proofs.SoundStatements.{empty, empty_written, empty_formed, empty_known, StmtGood, answer_wanted, plain_as, between_sound, stmts_sound}
+use Rattle.expr_parser.proofs.SoundFactors.{no_span}
 
 -- ---- an arm that may stand where one is wanted
 

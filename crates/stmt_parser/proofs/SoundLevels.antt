@@ -28,7 +28,7 @@ use Rattle.expr_parser.proofs.FollowedParts.{and_in}
 use Rattle.expr_parser.proofs.Openings.{Opening, within, in_counted, in_spanned, behind, before, Filled, filled_as, Hole}
 use Rattle.expr_parser.proofs.Spots.{Answer, Spot, Reads, Good, spot_behind, spot_within, begins_at, deep_at}
 use Rattle.expr_parser.proofs.SoundTokens.{written_both, answer_symbol}
-use Rattle.expr_parser.proofs.SoundFactors.{expr_sound}
+use Rattle.expr_parser.proofs.SoundFactors.{expr_sound, no_span}
 use Rattle.expr_parser.proofs.SoundConstants.{label_sound}
 use Rattle.stmt_parser.specs.Writing.{optional_label as write_label_part, write_plain, write_stmt}
 use Rattle.stmt_parser.specs.Grammar.{alone, formed_optional_label, formed_plain, formed_stmt}
@@ -37,7 +37,7 @@ use Rattle.stmt_parser.specs.Levels.{structured, plain_by, stmt_by, stmt}
 use Rattle.stmt_parser.proofs.WrittenStatements.{write_stmt_of, write_nothing_of}
 use Rattle.stmt_parser.proofs.FormedStatements.{formed_stmt_of, formed_nothing_of}
 use Rattle.stmt_parser.proofs.SoundRows.{ReadsOne, one_as}
-use Rattle.stmt_parser.proofs.SoundStatements.{no_span, empty, empty_written, empty_formed, empty_known, StmtGood, nothing_sound, compound_sound, conditional_sound, while_sound}
+use Rattle.stmt_parser.proofs.SoundStatements.{empty, empty_written, empty_formed, empty_known, StmtGood, nothing_sound, compound_sound, conditional_sound, while_sound}
 use Rattle.stmt_parser.proofs.SoundSimple.{goto_sound, named_sound}
 use Rattle.stmt_parser.proofs.SoundLoops.{repeat_sound, for_sound, with_sound, try_sound}
 use Rattle.stmt_parser.proofs.SoundCases.{case_sound}

@@ -35,7 +35,7 @@ use Rattle.expr_parser.proofs.Openings.{Opening, within, in_spanned, behind, bef
 use Rattle.expr_parser.proofs.Spots.{Answer, Spot, Good, are_last, are_joined, spot_behind, spot_within, begins_at}
 use Rattle.expr_parser.proofs.SoundTokens.{written_node, written_token, written_name, answer_token, answer_symbol, answer_word}
 use Rattle.expr_parser.proofs.SoundLists.{listed, ReadsList, list_sound}
-use Rattle.expr_parser.proofs.SoundPlaces.{place_sound}
+use Rattle.expr_parser.proofs.SoundPlaces.{place_sound, a_name}
 use Rattle.expr_parser.proofs.SoundFactors.{nil_expr, nil_expr_formed, nil_expr_known}
 use Rattle.stmt_parser.specs.Classes.{direction_of, directions}
 use Rattle.stmt_parser.specs.Writing.{direction_word, write_plain, write_stmt}
@@ -151,7 +151,7 @@ module _ (d : Dialect) {C : Type 0} (layout : C → Layout) (form : C → Bool) 
         answer_wanted d layout form end outer levels tokens known word_.KwDo r4 spot4 (begins_at d layout form end outer levels tokens spot4 hole4 tt refl behind_last_known) (λ _ r5 w5.
         reads (limits_of a w b) r5 (record { one = r1; two = r2; three = r3; four = r4; assign = w1; first = h.written; direction = w3; last = g.written; does = w5; first_formed = h.formed; last_formed = g.formed; first_fits = h.fits; last_fits = g.fits }))))))
 
-    -- "," Place and so on
+    -- Place {"," Place}
     places_sound : (o : Opening) (s : List Placed) → SpotT o s → Hole d layout form (λ p. with_commas (map write_place (listed p))) (λ p. some_all (map (formed_place d) (listed p))) o → o.depth + k ≡ levels
         → AnswerT (ReadsList d layout form end outer levels tokens known write_place (formed_place d) k s) (places end child s)
     unfolding places more_places next_place
@@ -208,7 +208,6 @@ module _ (d : Dialect) {C : Type 0} (layout : C → Layout) (form : C → Bool) 
           let up_known : AreTokens d (tokens_of up) = (to_known d, are_joined d n body (nil_expr_known d) body_known) in
           let value = symbol mark.Assign & n & up in
           let value_known : AreTokens d (tokens_of value) = (assign_known d, are_joined d n up (nil_expr_known d) up_known) in
-          let a_name : Identifier = record { name = 97 ∷ []; span = end } in
           let hole1 : Hole {A = Unit {0}} d layout form (λ _. identifier a_name & value) (λ _. true) opened = record { at = λ _ _. filled a_name nil_expr Up nil_expr empty ok ok (empty_formed d false) } in
           answer_token d layout form end outer levels tokens identifiers r1 spot1 (begins_at d layout form end outer levels tokens spot1 hole1 tt refl (name_known d, value_known)) (λ t i r2 is e.
           let w2 = written_name end i t r2 e (identifier_is t.token t.span i is) in

@@ -34,11 +34,9 @@ use Rattle.stmt_parser.proofs.WrittenStatements.{write_else, write_stmt_of, writ
 use Rattle.stmt_parser.proofs.FormedStatements.{formed_else, formed_stmt_of, formed_nothing_of, formed_compound_of, formed_if_of, formed_while_of}
 use Rattle.expr_parser.proofs.KnownTokens.{do_known, then_known, end_known}
 use Rattle.stmt_parser.proofs.SoundRows.{else_next, ReadsOne, one_as, GoodOne, ReadsRows, rows_sound}
+use Rattle.expr_parser.proofs.SoundFactors.{no_span}
 
 -- ---- the empty statement, which may stand where one is wanted
-
-abbrev pub no_span : Span
-no_span = record { file = 0; start = 0; end = 0; line = 0 }
 
 abbrev pub empty : Stmt
 empty = stmt_of None (plain_.Nothing no_span) no_span
