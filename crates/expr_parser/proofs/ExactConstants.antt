@@ -1,5 +1,5 @@
 -- Labels and constants that are written are read.
-use Rattle.std.proofs.Common.{◌≡◌, ℕ, Bool, false, ◌&&◌, List, [], ◌∷◌, map, Option, Some, None, Ok, refl, ap, ◌∙◌}
+use Rattle.std.proofs.Common.{◌≡◌, ℕ, Bool, true, false, ◌&&◌, List, [], ◌∷◌, map, Option, Some, None, Ok, refl, ap, ◌∙◌}
 use Rattle.std.specs.Prelude.{IsTrue}
 use Rattle.std.specs.Option.{option_map}
 use Rattle.p2c_text.specs.declared.dialect.Dialect.{Dialect}
@@ -23,8 +23,8 @@ use Rattle.expr_parser.specs.ConstantNodes.{write_label, write_constant, write_c
 use Rattle.expr_parser.specs.Constants.{named_label, number_label, begins_named_label, label, text_constant, name_constant, number_constant, unsigned_constant, signed_constant, constant, begins_range, optional_last, case_label_of, case_label, next_case_label, more_case_labels, case_labels}
 use Rattle.expr_parser.proofs.Layouts.{spell, spell_join}
 use Rattle.expr_parser.proofs.Followed.{on_first}
-use Rattle.expr_parser.proofs.FollowedParts.{Part}
-use Rattle.expr_parser.proofs.FollowedConstants.{no_name, looks_named, and_true, looks_range, LabelEnds, range_ends, comma_ends}
+use Rattle.expr_parser.proofs.FollowedParts.{and_in, Part}
+use Rattle.expr_parser.proofs.FollowedConstants.{no_name, looks_named, looks_range, LabelEnds, range_ends, comma_ends}
 use Rattle.expr_parser.proofs.Lookahead.{looks_name, looks_text, on_text, on_sign, on_symbol, on_symbol_here, says_number, says_text, says_symbol}
 use Rattle.expr_parser.proofs.Exact.{written_inside, written_plain, ends_plain, exact_then, exact_part, exact_token, exact_name, exact_made, exact_first, exact_second, looks_plain, looks_written}
 use Rattle.expr_parser.proofs.ExactLists.{commas_exact}
@@ -38,7 +38,7 @@ label_exact d end (a_label.Number v span) formed s r h =
     let (place, inside) = written_inside end span (token (Number v)) s r h in
     exact_second (begins_named_label d s) _ _ (looks_written (looks_named d) end (token (Number v)) s r inside ∙ no_name d) (exact_token _ numbers (says_number v) end Done s r inside (λ m h. exact_made end span (a_label.Number v) s m r h refl place))
 label_exact d end (a_label.Name i) formed s r h =
-    exact_first (begins_named_label d s) _ _ (looks_written (looks_named d) end (identifier i) s r h ∙ and_true (has_named_labels d) formed) (exact_name _ i end Done s r h (λ m h. ap (λ z. Ok (a_label.Name i, z)) h))
+    exact_first (begins_named_label d s) _ _ (looks_written (looks_named d) end (identifier i) s r h ∙ and_in (has_named_labels d) true formed refl) (exact_name _ i end Done s r h (λ m h. ap (λ z. Ok (a_label.Name i, z)) h))
 
 -- ---- constants
 
@@ -73,7 +73,7 @@ module _ (d : Dialect) (end : Span) where
   unfolding optional_last
   last_exact None formed s r h ends = exact_second (begins_range d s) _ _ (looks_written (looks_range d) end Done s r h ∙ range_ends d (plain r) ends) (ap (λ z. Ok (None, z)) h)
   last_exact (Some c) formed s r h ends =
-      exact_first (begins_range d s) _ _ (looks_written (looks_range d) end (symbol mark.DotDot & write_constant c) s r h ∙ ap (λ b. has_label_ranges d && b) (on_symbol_here mark.DotDot) ∙ and_true (has_label_ranges d) formed)
+      exact_first (begins_range d s) _ _ (looks_written (looks_range d) end (symbol mark.DotDot & write_constant c) s r h ∙ ap (λ b. has_label_ranges d && b) (on_symbol_here mark.DotDot) ∙ and_in (has_label_ranges d) true formed refl)
       (exact_token _ (symbols mark.DotDot) (says_symbol mark.DotDot) end (write_constant c) s r h (λ m h. exact_then _ (constant_exact end c m r h) refl))
 
   pub case_label_exact : (x : CaseLabel) → IsTrue (formed_case_label d x) → (s r : List Placed) → IsWritten end (write_case_label x) s r → LabelEnds (plain r) → case_label d end s ≡ Ok (x, r)

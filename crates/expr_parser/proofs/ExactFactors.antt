@@ -1,5 +1,5 @@
 -- Factors and whole expressions that are written are read.
-use Rattle.std.proofs.Common.{◌≡◌, ℕ, zero, suc, ℤ, ◌≤◌, true, false, List, [], ◌∷◌, map, Option, Some, None, Ok, refl, ap, ◌∙◌, arith}
+use Rattle.std.proofs.Common.{◌≡◌, ℕ, zero, suc, ℤ, List, [], ◌∷◌, map, Option, Some, None, Ok, refl, ap, ◌∙◌, arith}
 use Rattle.p2c_text.specs.declared.dialect.Dialect.{Dialect}
 use Rattle.p2c_text.specs.declared.place.Span.{Span}
 use Rattle.dialect_lexer.specs.declared.token.Word.TheVariants as word_
@@ -12,11 +12,11 @@ use Rattle.pascal_tree.specs.declared.expressions.Factor.{Factor}
 use Rattle.pascal_tree.specs.declared.expressions.Factor.TheVariants as factor_
 use Rattle.pascal_tree.specs.declared.expressions.Place.{Place, out-Place}
 use Rattle.token_parsing.specs.Parser.{Parser, begins}
-use Rattle.expr_parser.specs.Tokens.{Token, Placed, Number, Text, Symbol, plain}
-use Rattle.expr_parser.specs.Layout.{Layout, Done, ◌&◌, token, symbol, word, in_row, with_commas, IsWritten}
+use Rattle.expr_parser.specs.Tokens.{Placed, Number, Text, plain}
+use Rattle.expr_parser.specs.Layout.{Done, ◌&◌, token, symbol, word, in_row, with_commas, IsWritten}
 use Rattle.expr_parser.specs.Writing.{identifier, optional_after as write_after, write_args, write_elem, write_expr, write_factor, write_place, write_selector}
 use Rattle.expr_parser.specs.Grammar.{all, optional, formed_elem, formed_factor}
-use Rattle.expr_parser.specs.Classes.{same_word, same_symbol, identifiers, numbers, texts, words, symbols}
+use Rattle.expr_parser.specs.Classes.{same_word, same_symbol, numbers, texts, words, symbols}
 use Rattle.expr_parser.specs.Places.{optional_after}
 use Rattle.expr_parser.specs.Factors.{number, text, nil, call, read_place, named, group, negation, elem_of, elem, next_elem, more_elems, some_elems, elems, set, factor_by}
 use Rattle.expr_parser.specs.Expressions.{expr, factor}

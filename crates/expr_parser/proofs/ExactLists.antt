@@ -1,5 +1,5 @@
 -- Lists with commas or semicolons that are written are read.
-use Rattle.std.proofs.Common.{◌≡◌, ℕ, ◌<◌, Bool, true, false, ◌&&◌, List, [], ◌∷◌, ◌++◌, length, map, Ok, refl, sym, ap, ◌∙◌, arith}
+use Rattle.std.proofs.Common.{◌≡◌, ℕ, Bool, true, false, ◌&&◌, List, [], ◌∷◌, ◌++◌, map, Ok, refl, ap, ◌∙◌}
 use Rattle.std.specs.Prelude.{IsTrue}
 use Rattle.std.specs.List.{AllByRecursion}
 use Rattle.p2c_text.specs.declared.place.Span.{Span}
@@ -7,7 +7,7 @@ use Rattle.dialect_lexer.specs.declared.token.Symbol.{Symbol as SpecialSymbol}
 use Rattle.dialect_lexer.specs.declared.token.Symbol.TheVariants as mark
 use Rattle.token_parsing.specs.Parser.{Parser, and_then, begins, rest, repeat}
 use Rattle.expr_parser.specs.Tokens.{Token, Placed, Symbol, plain}
-use Rattle.expr_parser.specs.Layout.{Layout, Done, Leaf, ◌&◌, symbol, after_commas, with_commas, IsWritten}
+use Rattle.expr_parser.specs.Layout.{Layout, Done, ◌&◌, symbol, after_commas, with_commas, IsWritten}
 use Rattle.expr_parser.specs.Semicolons.{after_semicolons, with_semicolons}
 use Rattle.expr_parser.specs.Grammar.{all, some_all}
 use Rattle.expr_parser.specs.Classes.{symbols, expect}

@@ -1,5 +1,5 @@
 -- Places and arguments that are written are read.
-use Rattle.std.proofs.Common.{◌≡◌, ℕ, Bool, true, false, List, [], ◌∷◌, ◌++◌, map, Option, Some, None, Ok, refl, sym, ap, subst, ◌∙◌}
+use Rattle.std.proofs.Common.{◌≡◌, ℕ, false, List, [], ◌∷◌, ◌++◌, map, Option, Some, None, Ok, refl, sym, ap, subst, ◌∙◌}
 use Rattle.std.specs.List.{AllByRecursion}
 use Rattle.p2c_text.specs.declared.dialect.Dialect.{Dialect}
 use Rattle.p2c_text.specs.declared.place.Span.{Span}
@@ -16,7 +16,7 @@ use Rattle.pascal_tree.specs.declared.expressions.Place.{Place, out-Place}
 use Rattle.pascal_tree.specs.declared.expressions.Selector.{Selector}
 use Rattle.pascal_tree.specs.declared.expressions.Selector.TheVariants as selector
 use Rattle.token_parsing.specs.Parser.{Parser, and_then, begins}
-use Rattle.expr_parser.specs.Tokens.{Token, Placed, Symbol, plain}
+use Rattle.expr_parser.specs.Tokens.{Placed, plain}
 use Rattle.expr_parser.specs.Layout.{Layout, Done, ◌&◌, symbol, word, in_row, with_commas, IsWritten}
 use Rattle.expr_parser.specs.Writing.{identifier, optional_after as write_after, write_arg, write_args, write_expr, write_place, write_selector}
 use Rattle.expr_parser.specs.Grammar.{all, some_all, formatted, formed_arg, formed_args, formed_expr, formed_place, formed_selector}
@@ -33,7 +33,7 @@ use Rattle.expr_parser.proofs.Followed.{on_first}
 use Rattle.expr_parser.proofs.FollowedParts.{and_in, Part, part_as, part_first, part_second, part_left, part_right, part_inside}
 use Rattle.expr_parser.proofs.FollowedPlaces.{selector_starts, ArgEnds, formats_end, comma_ends, close_ends}
 use Rattle.expr_parser.proofs.Lookahead.{looks_symbol, looks_selector, looks_program, not_program, on_symbol, on_word, on_selector, on_symbol_here, on_word_here, says_symbol, says_word, ExprEnds, mark_ends}
-use Rattle.expr_parser.proofs.Exact.{written_as, written_inside, written_plain, ends_plain, exact_then, exact_part, exact_token, exact_name, exact_made, exact_first, exact_second, looks_plain, looks_written, Row, row_ends, list_exact}
+use Rattle.expr_parser.proofs.Exact.{written_as, written_inside, written_plain, ends_plain, exact_then, exact_part, exact_token, exact_name, exact_made, exact_first, exact_second, looks_plain, looks_written, Row, list_exact}
 use Rattle.expr_parser.proofs.ExactLists.{commas_exact}
 use Rattle.expr_parser.proofs.ExactTerms.{ExprExact}
 

@@ -1,5 +1,5 @@
 -- Terms, sums and comparisons that are written are read.
-use Rattle.std.proofs.Common.{◌≡◌, ℕ, suc, false, ◌&&◌, List, [], ◌∷◌, ◌++◌, map, Option, Some, None, Ok, refl, sym, ap, subst, ◌∙◌}
+use Rattle.std.proofs.Common.{◌≡◌, ℕ, suc, false, List, [], ◌∷◌, ◌++◌, map, Option, Some, None, Ok, refl, sym, ap, subst, ◌∙◌}
 use Rattle.std.specs.List.{AllByRecursion}
 use Rattle.p2c_text.specs.declared.dialect.Dialect.{Dialect}
 use Rattle.p2c_text.specs.declared.place.Span.{Span}
@@ -12,9 +12,9 @@ use Rattle.pascal_tree.specs.declared.expressions.MultipliedFactor.{MultipliedFa
 use Rattle.pascal_tree.specs.declared.expressions.Simple.{Simple, out-Simple}
 use Rattle.pascal_tree.specs.declared.expressions.Term.{Term, out-Term}
 use Rattle.token_parsing.specs.Parser.{Parser, begins}
-use Rattle.expr_parser.specs.Tokens.{Token, Placed, plain}
+use Rattle.expr_parser.specs.Tokens.{Placed, plain}
 use Rattle.expr_parser.specs.Layout.{Layout, Done, ◌&◌, token, in_row, IsWritten}
-use Rattle.expr_parser.specs.Writing.{optional_sign as write_sign, sign_token, relation_token, adding_token, multiplying_token, write_added, write_expr, write_factor, write_multiplied, write_simple, write_term}
+use Rattle.expr_parser.specs.Writing.{optional_sign as write_sign, sign_token, relation_token, write_added, write_expr, write_factor, write_multiplied, write_simple, write_term}
 use Rattle.expr_parser.specs.Grammar.{all, formed_added, formed_expr, formed_factor, formed_multiplied, formed_simple, formed_term}
 use Rattle.expr_parser.specs.Classes.{signs, relations, addings, multiplyings}
 use Rattle.expr_parser.specs.Expressions.{term_of, simple_of, expr_of, next_factor, more_factors, term, optional_sign, next_term, more_terms, simple, compared, expr_by}
@@ -26,9 +26,9 @@ use Rattle.expr_parser.proofs.Spelled.{multiplied_written, added_written, term_w
 use Rattle.expr_parser.proofs.Starts.{term_starts}
 use Rattle.expr_parser.proofs.Followed.{on_first}
 use Rattle.expr_parser.proofs.FollowedParts.{Part, part_first, part_second, part_right}
-use Rattle.expr_parser.proofs.FollowedTerms.{multiplied_part, added_part, term_part, simple_part, expr_part, factors_end, terms_end, right_ends}
+use Rattle.expr_parser.proofs.FollowedTerms.{multiplied_part, added_part, term_part, simple_part, expr_part, right_ends}
 use Rattle.expr_parser.proofs.Lookahead.{looks_sign, looks_relation, looks_adding, looks_multiplying, on_sign, on_adding, on_multiplying, on_sign_here, on_relation_here, on_adding_here, on_multiplying_here, says_sign, says_relation, says_adding, says_multiplying, FactorEnds, TermEnds, SimpleEnds, ExprEnds, multiplying_ends, adding_ends}
-use Rattle.expr_parser.proofs.Exact.{written_as, written_inside, written_inside_both, written_plain, ends_plain, exact_then, exact_part, exact_token, exact_made, exact_first, exact_second, looks_plain, looks_written, Row, row_ends, list_exact}
+use Rattle.expr_parser.proofs.Exact.{written_as, written_inside, written_inside_both, written_plain, ends_plain, exact_then, exact_part, exact_token, exact_made, exact_first, exact_second, looks_written, Row, row_ends, list_exact}
 
 -- ---- what it is to read the tree that is written
 

@@ -42,10 +42,6 @@ no_name dialect.Hp = refl
 pub looks_named : (d : Dialect) → Looks (begins_named_label d) (λ x. has_named_labels d && on_name x)
 looks_named d = record { none = ap (λ b. has_named_labels d && b) looks_name.none ∙ no_name d; some = λ t s. ap (λ b. has_named_labels d && b) (looks_name.some t s) }
 
-pub and_true : (b : Bool) → IsTrue b → (b && true) ≡ true
-and_true true h = refl
-and_true false h = h
-
 pub label_followed : (n : Until) (W : Type 0) (d : Dialect) (end : Span) (l : Label) → IsTrue (formed_label d l) → (rest : List Token) (s : List Placed) → Along n (spell (write_label l) rest) s → Followed n W rest (label d end s)
 unfolding label named_label number_label
 label_followed n W d end (a_label.Number v span) formed rest s h =

@@ -1,5 +1,5 @@
 -- Where a parser reads each tree that is written to the end of the tokens, tokens have one tree, and the tree of the longest run is read.
-use Rattle.std.proofs.Common.{◌≡◌, ℕ, zero, suc, ◌+◌, ◌-◌, max, ◌<◌, ◌≤◌, Bool, true, false, List, [], ◌∷◌, ◌++◌, length, Option, Some, None, Ok, Err, refl, sym, ap, subst, ◌∙◌, append_assoc, arith, length-append, lt-ltb}
+use Rattle.std.proofs.Common.{◌≡◌, ℕ, zero, suc, ◌-◌, max, ◌<◌, Bool, true, false, List, [], ◌∷◌, ◌++◌, length, Option, None, Ok, Err, refl, sym, ap, subst, ◌∙◌, append_assoc, arith, length-append, lt-ltb}
 use Rattle.std.specs.Prelude.{nat_lt, slice_get}
 use Rattle.std.specs.Option.{option_map}
 use Rattle.std.proofs.lemmas.Bool.{le-ltb, ltb-true, ltb-false}
@@ -8,7 +8,7 @@ use Rattle.p2c_text.specs.declared.dialect.Dialect.{Dialect}
 use Rattle.p2c_text.specs.declared.place.Span.{Span}
 use Rattle.token_parsing.specs.declared.refusal.Refusal.TheVariants.{Unexpected, TooDeep}
 use Rattle.token_parsing.specs.Parser.{Outcome, Parser}
-use Rattle.expr_parser.specs.Tokens.{Token, Placed, plain}
+use Rattle.expr_parser.specs.Tokens.{Placed, plain}
 use Rattle.expr_parser.specs.Spans.{next_place, last_of, up_to_end, span_between}
 use Rattle.expr_parser.specs.Layout.{Layout, Done, Leaf, Spanned, Counted, tokens_of, IsWritten}
 use Rattle.expr_parser.specs.Grammar.{AreTokens}
