@@ -1,5 +1,5 @@
 -- From what the parser gives to what is answered.
-use Rattle.std.proofs.Common.{◌≡◌, ◌⊎◌, ℕ, List, Result, Ok, Err, refl, sym, ap, subst, ◌∙◌}
+use Rattle.std.proofs.Common.{◌≡◌, ◌⊎◌, ℕ, List, Result, Ok, Err, IfOk, refl, sym, ap, subst, ◌∙◌}
 use Rattle.p2c_text.specs.declared.dialect.Dialect.{Dialect}
 use Rattle.p2c_text.specs.declared.place.Span.{Span}
 use Rattle.dialect_lexer.specs.FileTokens.{FileTokens}
@@ -17,8 +17,9 @@ use Rattle.expr_parser.specs.Parsed.{end_of, Means}
 use Rattle.expr_parser.proofs.Answered.{tokens_known}
 use Rattle.unit_parser.specs.Files.{file}
 use Rattle.unit_parser.specs.Parsed.{Answers}
-use Rattle.unit_parser.specs.Text.{UnexpectedToken, UnexpectedEnd, IsTooDeep, Parses}
+use Rattle.unit_parser.specs.Text.{UnexpectedToken, UnexpectedEnd, IsTooDeep, IsOnlyTree, Parses}
 use Rattle.unit_parser.proofs.Clauses.{read_is_derived, unexpected_is_first, too_deep_is_deep}
+use Rattle.unit_parser.proofs.ExactLaws.{derived_is_unique}
 
 pub refused_answers : (end : Span) (tokens : List Placed) (given : Outcome Placed SourceFile) (e : ParseError) (f : SyntaxFault) → Fails e given → Means end tokens e f → Answers end tokens given (Err f)
 refused_answers end tokens given (error_.At (refusal.Unexpected left)) f fails m = subst (λ z. Answers end tokens given (Err z)) (sym m) (left, fails, refl)
@@ -42,3 +43,7 @@ given_is_parsed d bytes list result end number slice is_end is_number is_slice l
     let here : end ≡ end_of list.file bytes = is_end ∙ ap (λ f. end_of f bytes) is_number in
     let of_list : Answers end (seen bytes list.tokens) (file d end 400 (seen bytes list.tokens)) result = subst (λ s. Answers end (seen bytes s) (file d end 400 (seen bytes s)) result) is_slice h in
     answer_is_parsed d bytes list result lexes (subst (λ z. Answers z (seen bytes list.tokens) (file d z 400 (seen bytes list.tokens)) result) here of_list)
+
+pub parsed_is_only : (d : Dialect) (bytes : List ℕ) (list : FileTokens) (result : Result SourceFile SyntaxFault) → Parses d bytes list result → IfOk result (IsOnlyTree d bytes list)
+parsed_is_only d bytes list (Ok f) h = λ g k. derived_is_unique d (end_of list.file bytes) g f (seen bytes list.tokens) k h
+parsed_is_only d bytes list (Err e) h = tt

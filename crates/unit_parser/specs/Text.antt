@@ -60,6 +60,10 @@ abbrev pub Answered : Dialect → Span → List Placed → Result SourceFile Syn
 Answered d end tokens (Ok f) = Derives d end f tokens
 Answered d end tokens (Err e) = Faults d end tokens e
 
+-- the tokens of these bytes have no other tree
+abbrev pub IsOnlyTree : Dialect → List ℕ → FileTokens → SourceFile → Type 0
+IsOnlyTree d bytes list f = (g : SourceFile) → Derives d (end_of list.file bytes) g (seen bytes list.tokens) → g ≡ f
+
 -- the tree of the tokens of these bytes, or why there is none
 abbrev pub Parses : Dialect → List ℕ → FileTokens → Result SourceFile SyntaxFault → Type 0
 Parses d bytes list result = Answered d (end_of list.file bytes) (seen bytes list.tokens) result

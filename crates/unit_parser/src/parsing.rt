@@ -1,10 +1,10 @@
 //! The tree of a text.
-ghost use Rattle.std.specs.Prelude.{◌≤◌, length};
+ghost use Rattle.std.specs.Prelude.{◌≤◌, IfOk, length};
 ghost use Rattle.dialect_lexer.specs.Tokens.{Lexes};
 ghost use Rattle.expr_parser.specs.Tokens.{seen};
 ghost use Rattle.unit_parser.specs.Files as files;
 ghost use Rattle.unit_parser.specs.Parsed.{Answers};
-ghost use Rattle.unit_parser.specs.Text.{Parses};
+ghost use Rattle.unit_parser.specs.Text.{IsOnlyTree, Parses};
 
 use crate::files::file;
 use dialect_lexer::{LONGEST_INPUT, Token, TokenList};
@@ -35,7 +35,8 @@ pub fn parse(
 ) -> Result<SourceFile, SyntaxFault>
     requires short { length bytes.now ≤ LONGEST_INPUT }
     requires lexed { Lexes dialect bytes.now tokens.now }
-    ensures { Parses dialect bytes.now tokens.now result }
+    ensures parsed { Parses dialect bytes.now tokens.now result }
+    ensures only { IfOk result (IsOnlyTree dialect bytes.now tokens.now) }
 {
     let source = Source {
         alloc,
