@@ -7,6 +7,9 @@ use Rattle.token_parsing.specs.declared.refusal.Refusal.TheVariants.{Unexpected,
 use Rattle.expr_parser.specs.Tokens.{Placed, plain}
 use Rattle.expr_parser.specs.Grammar.{AreTokens}
 use Rattle.expr_parser.specs.Parsed.{place_left}
+use Rattle.expr_parser.specs.Text.{AreUnique}
+use Rattle.unit_parser.specs.Writing.{write_file}
+use Rattle.unit_parser.specs.Grammar.{formed_file}
 use Rattle.unit_parser.specs.Text.{Derives, UnexpectedToken, UnexpectedEnd, IsTooDeep}
 use Rattle.unit_parser.specs.Files.{file}
 
@@ -18,7 +21,11 @@ ReadIsDerived = (d : Dialect) (end : Span) (tokens : List Placed) (f : SourceFil
 abbrev pub DerivedIsRead : Type 0
 DerivedIsRead = (d : Dialect) (end : Span) (f : SourceFile) (tokens : List Placed) → Derives d end f tokens → file d end 400 tokens ≡ Ok (f, [])
 
--- tokens have one tree
+-- no two trees of texts, whatever their heights, are written by the same tokens
+abbrev pub TreeIsUnique : Type 0
+TreeIsUnique = AreUnique write_file formed_file
+
+-- tokens have one tree within the levels
 abbrev pub DerivedIsUnique : Type 0
 DerivedIsUnique = (d : Dialect) (end : Span) (f g : SourceFile) (tokens : List Placed) → Derives d end f tokens → Derives d end g tokens → f ≡ g
 
