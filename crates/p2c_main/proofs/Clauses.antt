@@ -3,22 +3,23 @@ use Rattle.std.proofs.Common.{◌≡◌, ◌≢◌, ℕ, List, Option, Some, Non
 use Rattle.std.specs.Bool.{⊤}
 use Rattle.p2c_outside.specs.Counts.{Rose}
 use Rattle.p2c_outside.specs.Told.{Named}
-use Rattle.p2c_main.specs.Answers.{Answer, AnswersTo, Counts, RunInput, Stays, TranslationAnswer, RunAnswer, IsEarly}
+use Rattle.p2c_main.specs.Answers.{Answer, AnswersTo, Counts, RunInput, Stays, TranslationAnswer, RunAnswer, IsEarly, IsMissing, LacksOne}
 use Rattle.p2c_main.specs.Executed.{AsksForText, CutsOff, EndsWith, IsOfRun, MayExecutePart, MayTake, NotRun, OfFile, ReadFails}
-use Rattle.p2c_main.specs.Messages.{message_of, status_of}
-use Rattle.p2c_main.specs.Reading.{Lacks}
-use Rattle.p2c_main.specs.Translated.{AsksForAccepted, IsOfTranslation, Refuses, Translates, TranslatesPart}
-use Rattle.p2c_main.specs.Words.{Task, Translating, Running, IsRunning, Finds, name_asked, name_of, seen, task_asked}
-use Rattle.p2c_main.specs.declared.words.Chosen.{Chosen}
+use Rattle.p2c_main.specs.Messages.{file_of, message_of, status_of}
+use Rattle.p2c_main.specs.Translated.{AsksForAccepted, Refused, Translates, TranslatesPart}
+use Rattle.p2c_text.specs.declared.dialect.Dialect.{Dialect}
+use Rattle.command_words.specs.Asked.{asked, seen}
+use Rattle.command_words.specs.declared.setting.Setting.{Setting}
+use Rattle.p2c_main.specs.Words.{Task, Translating, Running, IsRunning, Finds, name_asked, name_in, task_asked}
 use Rattle.p2c_main.specs.declared.outcome.Outcome.{Outcome}
-use Rattle.p2c_main.specs.declared.outcome.Outcome.TheVariants.{Done, Usage, TooLong, Unbuilt, BadText, Missing, ReadFault, WriteFault, OutOfMemory}
+use Rattle.p2c_main.specs.declared.outcome.Outcome.TheVariants.{Done, Usage, TooLong, BadSource, BadText, Missing, ReadFault, WriteFault, OutOfMemory}
 use Rattle.p2c_main.proofs.Outcomes as by
 
 -- ---- the answer
 
-of_translation : (told : Option Named) (task : Option Task) (input old new : Option (List ℕ)) (o : Outcome) (name : List ℕ) → Answer told task input old new o → task ≡ Some (Translating name)
-    → TranslationAnswer told name old new o
-of_translation told task input old new o name a is = subst (λ t. AnswersTo told t input old new o) is a.says
+of_translation : (told : Option Named) (task : Option Task) (input old new : Option (List ℕ)) (o : Outcome) (d : Dialect) (names : List (List ℕ)) → Answer told task input old new o → task ≡ Some (Translating d names)
+    → TranslationAnswer told d names old new o
+of_translation told task input old new o d names a is = subst (λ t. AnswersTo told t input old new o) is a.says
 
 of_run : (told : Option Named) (task : Option Task) (input old new : Option (List ℕ)) (o : Outcome) (steps : ℕ) (name : List ℕ) → Answer told task input old new o → task ≡ Some (Running steps name)
     → RunAnswer told name steps input old new o
@@ -32,21 +33,21 @@ pub asked_of : {told : Option Named} {task : Option Task} {input old new : Optio
 asked_of {told = told} {input = input} {old = old} {new = new} {o = o} a is none =
     subst (λ x. (x ≡ 240) ⊎ (x ≡ 245)) (sym is) (by.nothing_status o (subst (λ t. AnswersTo told t input old new o) none a.says))
 
-pub absent_of : {told : Option Named} {task : Option Task} {input old new : Option (List ℕ)} {o : Outcome} {s : ℕ} → Answer told task input old new o → s ≡ status_of o → s ≡ 242 → Lacks told (name_of task)
+pub absent_of : {told : Option Named} {task : Option Task} {input old new : Option (List ℕ)} {o : Outcome} {s : ℕ} → Answer told task input old new o → s ≡ status_of o → s ≡ 242 → LacksOne told task
 absent_of {told = told} {task = task} {input = input} {old = old} {new = new} {o = o} a is e =
-    by.missing_lacks told task input old new (subst (λ x. AnswersTo told task input old new x) (by.missing_status o (by.low told task input old new o a.says) (sym is ∙ e)) a.says)
+    by.missing_lacks told task input old new o (by.missing_status o (by.low told task input old new o a.says) (sym is ∙ e)) a.says
 
 pub refused_of : {told : Option Named} {task : Option Task} {input old new : Option (List ℕ)} {o : Outcome} {s : ℕ} → Answer told task input old new o → s ≡ status_of o
-    → (name : List ℕ) → task ≡ Some (Translating name) → s ≡ 241 → Refuses told name
-refused_of {told = told} {task = task} {input = input} {old = old} {new = new} {o = o} a is name asked e = by.status_refuses told name old new o (of_translation told task input old new o name a asked) (sym is ∙ e)
+    → (d : Dialect) (names : List (List ℕ)) → task ≡ Some (Translating d names) → s ≡ 241 → Refused told d names
+refused_of {told = told} {task = task} {input = input} {old = old} {new = new} {o = o} a is d names asked e = by.status_refuses told d names old new o (of_translation told task input old new o d names a asked) (sym is ∙ e)
 
 pub done_of : {told : Option Named} {task : Option Task} {input old new : Option (List ℕ)} {o : Outcome} {s : ℕ} → Answer told task input old new o → s ≡ status_of o
-    → (name : List ℕ) → task ≡ Some (Translating name) → s ≡ 0 → Translates told name old new
-done_of {told = told} {task = task} {input = input} {old = old} {new = new} {o = o} a is name asked e = by.done_translates told name old new o (of_translation told task input old new o name a asked) (sym is ∙ e)
+    → (d : Dialect) (names : List (List ℕ)) → task ≡ Some (Translating d names) → s ≡ 0 → Translates told d names old new
+done_of {told = told} {task = task} {input = input} {old = old} {new = new} {o = o} a is d names asked e = by.done_translates told d names old new o (of_translation told task input old new o d names a asked) (sym is ∙ e)
 
 pub cut_of : {told : Option Named} {task : Option Task} {input old new : Option (List ℕ)} {o : Outcome} {s : ℕ} → Answer told task input old new o → s ≡ status_of o
-    → (name : List ℕ) → task ≡ Some (Translating name) → s ≡ 244 → TranslatesPart told name old new
-cut_of {told = told} {task = task} {input = input} {old = old} {new = new} {o = o} a is name asked e = by.cut_translates told name old new o (of_translation told task input old new o name a asked) (sym is ∙ e)
+    → (d : Dialect) (names : List (List ℕ)) → task ≡ Some (Translating d names) → s ≡ 244 → TranslatesPart told d names old new
+cut_of {told = told} {task = task} {input = input} {old = old} {new = new} {o = o} a is d names asked e = by.cut_translates told d names old new o (of_translation told task input old new o d names a asked) (sym is ∙ e)
 
 pub ran_of : {told : Option Named} {task : Option Task} {input old new : Option (List ℕ)} {o : Outcome} {s : ℕ} → Answer told task input old new o → s ≡ status_of o
     → (steps : ℕ) (name : List ℕ) → task ≡ Some (Running steps name) → IsOfRun s → EndsWith s told name steps input old new
@@ -82,10 +83,10 @@ pub write_fault_of : {told : Option Named} {task : Option Task} {input old new :
 write_fault_of {told = told} {task = task} {input = input} {old = old} {new = new} {o = o} a is counts e = counts.write_fault (by.write_status o (by.low told task input old new o a.says) (sym is ∙ e))
 
 pub none_missing_of : {task : Option Task} {o : Outcome} {s m m' f f' t t' p p' : ℕ} → s ≡ status_of o → Counts task m m' f f' t t' p p' o → s ≢ 242 → s ≢ 243 → m' ≡ m
-none_missing_of is counts a b = counts.none_missing (λ e. a (is ∙ ap status_of e)) (λ e. b (is ∙ ap status_of e))
+none_missing_of is counts a b = counts.none_missing (λ m. a (is ∙ by.status_missing _ m)) (λ e. b (is ∙ ap status_of e))
 
 pub no_read_fault_of : {task : Option Task} {o : Outcome} {s m m' f f' t t' p p' : ℕ} → s ≡ status_of o → Counts task m m' f f' t t' p p' o → s ≢ 242 → s ≢ 243 → f' ≡ f
-no_read_fault_of is counts a b = counts.no_read_fault (λ e. a (is ∙ ap status_of e)) (λ e. b (is ∙ ap status_of e))
+no_read_fault_of is counts a b = counts.no_read_fault (λ m. a (is ∙ by.status_missing _ m)) (λ e. b (is ∙ ap status_of e))
 
 pub no_input_fault_of : {task : Option Task} {o : Outcome} {s m m' f f' t t' p p' : ℕ} → s ≡ status_of o → Counts task m m' f f' t t' p p' o → s ≢ 243 → t' ≡ t
 no_input_fault_of is counts a = counts.no_input_fault (λ e. a (is ∙ ap status_of e))
@@ -128,7 +129,7 @@ untouched_of is stays still a b = stays.same_out still (λ e. a (is ∙ ap statu
 
 -- ---- words that were not found, or ask for nothing
 
-pub still_counts : (task : Option Task) (m f t p : ℕ) (o : Outcome) → o ≢ Missing → o ≢ ReadFault → o ≢ WriteFault → Counts task m m f f t t p p o
+pub still_counts : (task : Option Task) (m f t p : ℕ) (o : Outcome) → (IsMissing o → ⊥) → o ≢ ReadFault → o ≢ WriteFault → Counts task m m f f t t p p o
 still_counts task m f t p o a b c = record {
   missing = λ e. absurd (a e);
   read_fault = λ e. absurd (b e);
@@ -149,29 +150,17 @@ still_stays task input out o = record {
 -- memory may be wanting whatever is asked for
 pub memory_answer : (told : Option Named) (task : Option Task) (input old : Option (List ℕ)) → AnswersTo told task input old old OutOfMemory
 memory_answer told None input old = tt
-memory_answer told (Some (Translating name)) input old = tt
+memory_answer told (Some (Translating d names)) input old = tt
 memory_answer told (Some (Running steps name)) input old = inl refl
 
 -- ---- tasks that are done
 
--- the clauses of a translation, as one
-pub translation_answer : (told : Option Named) (name : List ℕ) (old new : Option (List ℕ)) (o : Outcome) → IsOfTranslation o → (o ≡ Missing → Lacks told name) → (o ≡ TooLong → Refuses told name) → (o ≡ Unbuilt → Refuses told name)
-    → (o ≡ Done → Translates told name old new) → (o ≡ WriteFault → TranslatesPart told name old new) → TranslationAnswer told name old new o
-translation_answer told name old new Done form absent long unbuilt done cut = done refl
-translation_answer told name old new TooLong form absent long unbuilt done cut = long refl
-translation_answer told name old new Unbuilt form absent long unbuilt done cut = unbuilt refl
-translation_answer told name old new Missing form absent long unbuilt done cut = absent refl
-translation_answer told name old new ReadFault form absent long unbuilt done cut = tt
-translation_answer told name old new WriteFault form absent long unbuilt done cut = cut refl
-translation_answer told name old new OutOfMemory form absent long unbuilt done cut = tt
-translation_answer told name old new _ form absent long unbuilt done cut = absurd form
-
 early_untouched : (o : Outcome) → IsEarly o → (o ≢ Done) × (o ≢ WriteFault)
 early_untouched Usage early = (λ e. absurd cc, λ e. absurd cc)
 early_untouched TooLong early = (λ e. absurd cc, λ e. absurd cc)
-early_untouched Unbuilt early = (λ e. absurd cc, λ e. absurd cc)
+early_untouched (BadSource fault file line) early = (λ e. absurd cc, λ e. absurd cc)
 early_untouched (BadText kind line) early = (λ e. absurd cc, λ e. absurd cc)
-early_untouched Missing early = (λ e. absurd cc, λ e. absurd cc)
+early_untouched (Missing file) early = (λ e. absurd cc, λ e. absurd cc)
 early_untouched _ early = absurd early
 
 pub translation_stays : {I O : Type 0} (task : Option Task) (input : I) (out out' : O) (o : Outcome) → (o ≢ Done → o ≢ WriteFault → out' ≡ out) → Stays task input input out out' o
@@ -206,7 +195,8 @@ no_run_input told task input input' old new o (inr none) kept = record { fault =
 
 -- ---- the line on standard error
 
-pub same_message : {E : Type 0} (asked : Result (Option Chosen) E) (words : List (List ℕ)) (o : Outcome) (name : List ℕ) → Finds asked (task_asked words) → IfOk asked (λ found. name ≡ name_of (option_map seen found))
-    → IfErr asked (λ error. o ≡ OutOfMemory) → message_of o name ≡ message_of o (name_asked words)
-same_message (Ok found) words o name finds named wanting = ap (message_of o) (named ∙ ap name_of finds)
-same_message (Err error) words o name finds named wanting = ap (λ x. message_of x name) wanting ∙ sym (ap (λ x. message_of x (name_asked words)) wanting)
+pub same_message : {E : Type 0} (found : Result (Option Setting) E) (words : List (List ℕ)) (o : Outcome) (file : ℕ) (name : List ℕ) → Finds found (asked words) → file ≡ file_of o
+    → IfOk found (λ some. name ≡ name_in (option_map seen some) file) → IfErr found (λ error. o ≡ OutOfMemory) → message_of o name ≡ message_of o (name_asked words (file_of o))
+same_message (Ok some) words o file name finds is named wanting = ap (message_of o) (named ∙ ap (λ w. name_in w file) finds ∙ ap (name_in (asked words)) is)
+same_message (Err error) words o file name finds is named wanting =
+    ap (λ x. message_of x name) wanting ∙ sym (ap (λ x. message_of x (name_asked words (file_of o))) wanting)

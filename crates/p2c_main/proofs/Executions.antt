@@ -11,13 +11,13 @@ use Rattle.c_stepper.specs.declared.machine.Ended.TheVariants as ended
 use Rattle.p2c_outside.specs.Counts.{Rose}
 use Rattle.p2c_outside.specs.Told.{Named, WhereTold, Gains}
 use Rattle.run_core.specs.Answers.{IsRun}
-use Rattle.p2c_main.specs.Answers.{RunAnswer, IsEarly}
+use Rattle.p2c_main.specs.Answers.{RunAnswer, IsEarly, IsMissing}
 use Rattle.p2c_main.specs.Executed.{Executes, ExecutesPart, InputFails, CutsOff, OfFile, ReadFails, TakesOnly, ended_as, outcome_of_run}
 use Rattle.p2c_main.specs.Reading.{Lacks, outcome_of}
 use Rattle.p2c_main.specs.declared.reading.ReadRefusal.{ReadRefusal}
 use Rattle.p2c_main.specs.declared.reading.ReadRefusal.TheVariants as reading
 use Rattle.p2c_main.specs.declared.outcome.Outcome.{Outcome}
-use Rattle.p2c_main.specs.declared.outcome.Outcome.TheVariants.{Done, Ended, Usage, TooLong, Unbuilt, BadText, Missing, ReadFault, WriteFault, OutOfMemory, Spent, Stuck}
+use Rattle.p2c_main.specs.declared.outcome.Outcome.TheVariants.{Done, Ended, Usage, TooLong, BadSource, BadText, Missing, ReadFault, WriteFault, OutOfMemory, Spent, Stuck}
 use Rattle.p2c_main.proofs.Translations.{told_more}
 
 small_enough : (status : ℕ) → status < 210 → status ≤ 209
@@ -109,15 +109,15 @@ of_file files name bytes P whole (inr holds) = inr (bytes, whole, holds)
 
 -- ---- what the outcome says of the answer
 
-pub never_missing : (a : Result e.Ended CTextFault) → outcome_of_run a ≢ Missing
-never_missing (Ok (ended.Status status calls)) = λ e. absurd cc
-never_missing (Ok ended.Spent) = λ e. absurd cc
-never_missing (Ok (ended.Stuck kind)) = λ e. absurd cc
-never_missing (Ok ended.InputFault) = λ e. absurd cc
-never_missing (Ok ended.OutputFault) = λ e. absurd cc
-never_missing (Ok (ended.Memory error)) = λ e. absurd cc
-never_missing (Err (fault.At kind line)) = λ e. absurd cc
-never_missing (Err (fault.Memory error)) = λ e. absurd cc
+pub never_missing : (a : Result e.Ended CTextFault) → IsMissing (outcome_of_run a) → ⊥
+never_missing (Ok (ended.Status status calls)) = λ m. m
+never_missing (Ok ended.Spent) = λ m. m
+never_missing (Ok (ended.Stuck kind)) = λ m. m
+never_missing (Ok ended.InputFault) = λ m. m
+never_missing (Ok ended.OutputFault) = λ m. m
+never_missing (Ok (ended.Memory error)) = λ m. m
+never_missing (Err (fault.At kind line)) = λ m. m
+never_missing (Err (fault.Memory error)) = λ m. m
 
 -- the source and the sink failed where the outcome says so, and else not
 pub record DeviceFaults (taken taken' put put' : ℕ) (outcome : Outcome) : Type 0 where
@@ -202,13 +202,13 @@ kept_written input input' out out' written (Err f) kept = ap written kept.1
 
 -- the answer where the file was not read
 pub refused_answer : (files : Option Named) (name : List ℕ) (steps : ℕ) (input old : Option (List ℕ)) (r : ReadRefusal) → (r ≡ reading.TooLong → WhereTold files name (λ b. 67108864 < length b)) → (r ≡ reading.Missing → Lacks files name)
-    → RunAnswer files name steps input old old (outcome_of r)
-refused_answer files name steps input old reading.Missing long absent = absent refl
+    → RunAnswer files name steps input old old (outcome_of 0 r)
+refused_answer files name steps input old reading.Missing long absent = (absent refl, refl)
 refused_answer files name steps input old reading.Failed long absent = tt
 refused_answer files name steps input old reading.TooLong long absent = long refl
 refused_answer files name steps input old reading.OutOfMemory long absent = inl refl
 
-pub refused_fails : {failed taken kept : Type 0} (files : Option Named) (name : List ℕ) (steps : ℕ) (input left' old new : Option (List ℕ)) (r : ReadRefusal) → (r ≡ reading.Failed → failed) → kept → outcome_of r ≡ ReadFault
+pub refused_fails : {failed taken kept : Type 0} (files : Option Named) (name : List ℕ) (steps : ℕ) (input left' old new : Option (List ℕ)) (r : ReadRefusal) → (r ≡ reading.Failed → failed) → kept → outcome_of 0 r ≡ ReadFault
     → ReadFails failed taken kept files name steps input left' old new
 refused_fails files name steps input left' old new reading.Failed failed kept is = inl (failed refl, kept)
 refused_fails files name steps input left' old new _ failed kept is = absurd cc

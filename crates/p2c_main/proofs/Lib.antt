@@ -4,4 +4,3 @@ pub mod FrontLemmas
 pub mod Outcomes
 pub mod PlaceLine
 pub mod Translations
-pub mod WriterLemmas

@@ -1,20 +1,23 @@
 -- What the status of an answer tells of it.
 use Rattle.std.proofs.Common.{◌≡◌, ℕ, ◌<◌, ◌≤◌, List, [], length, Option, Some, None, ◌⊎◌, inl, inr, refl, subst, ◌∙◌, ap, sym, arith}
 use Rattle.std.specs.Bool.{⊤}
+use Rattle.p2c_text.specs.declared.dialect.Dialect.{Dialect}
+use Rattle.p2c_text.specs.Text.{NamedBytes}
 use Rattle.c_tree.specs.declared.program.CProgram.{CProgram}
 use Rattle.c_grammar.specs.Text.{CText}
 use Rattle.p2c_outside.specs.Told.{Named, HasFile, WhereTold}
 use Rattle.c_reader.specs.Read.{IsNoText}
 use Rattle.agreement.specs.Writers.{Writing}
-use Rattle.p2c_main.specs.Answers.{AnswersTo, NothingAnswer, TranslationAnswer, RunAnswer, IsEarly}
+use Rattle.p2c_main.specs.Answers.{AnswersTo, NothingAnswer, TranslationAnswer, RunAnswer, IsEarly, IsMissing, LacksOne}
 use Rattle.p2c_main.specs.Executed.{AsksForText, CutsOff, EndsWith, IsOfRun, MayExecutePart, NotRun, OfFile}
 use Rattle.p2c_main.specs.Messages.{status_of}
-use Rattle.p2c_main.specs.Reading.{Lacks}
-use Rattle.p2c_main.specs.Translated.{Accepts, AsksForAccepted, Refuses, Translates, TranslatesPart}
-use Rattle.p2c_main.specs.Words.{Task, Translating, Running, IsRunning, name_of, task_asked}
+use Rattle.p2c_main.specs.Reading.{AreTexts}
+use Rattle.translate_core.specs.Accepted.{Accepts}
+use Rattle.p2c_main.specs.Translated.{AsksForAccepted, Refused, Translates, TranslatesPart}
+use Rattle.p2c_main.specs.Words.{Task, Translating, Running, IsRunning, task_asked}
 use Rattle.p2c_main.specs.declared.outcome.Outcome.{Outcome}
-use Rattle.p2c_main.specs.declared.outcome.Outcome.TheVariants.{Done, Ended, Usage, TooLong, Unbuilt, BadText, Missing, ReadFault, WriteFault, OutOfMemory, Spent, Stuck}
-use Rattle.p2c_main.proofs.Translations.{told_more}
+use Rattle.p2c_main.specs.declared.outcome.Outcome.TheVariants.{Done, Ended, Usage, TooLong, BadSource, BadText, Missing, ReadFault, WriteFault, OutOfMemory, Spent, Stuck}
+use Rattle.p2c_main.proofs.Translations.{told_more, not_accepted, passes_long, same_texts, all_there}
 
 -- ---- the program's own status is at most 209
 
@@ -24,7 +27,7 @@ IsLow _ = ⊤
 
 low_ended : (told : Option Named) (task : Option Task) (input old new : Option (List ℕ)) (status : ℕ) → AnswersTo told task input old new (Ended status) → status ≤ 209
 low_ended told None input old new status a = absurd a
-low_ended told (Some (Translating name)) input old new status a = absurd a
+low_ended told (Some (Translating d names)) input old new status a = absurd a
 low_ended told (Some (Running steps name)) input old new status a = a.0
 
 pub low : (told : Option Named) (task : Option Task) (input old new : Option (List ℕ)) (o : Outcome) → AnswersTo told task input old new o → IsLow o
@@ -38,10 +41,14 @@ usage_status Usage small e = refl
 usage_status (Ended status) small e = absurd (omega (arith, e, small))
 usage_status _ small e = absurd (omega (arith, e))
 
-pub missing_status : (o : Outcome) → IsLow o → status_of o ≡ 242 → o ≡ Missing
-missing_status Missing small e = refl
+pub missing_status : (o : Outcome) → IsLow o → status_of o ≡ 242 → IsMissing o
+missing_status (Missing file) small e = tt
 missing_status (Ended status) small e = absurd (omega (arith, e, small))
 missing_status _ small e = absurd (omega (arith, e))
+
+pub status_missing : (o : Outcome) → IsMissing o → status_of o ≡ 242
+status_missing (Missing file) m = refl
+status_missing _ m = absurd m
 
 pub read_status : (o : Outcome) → IsLow o → status_of o ≡ 243 → o ≡ ReadFault
 read_status ReadFault small e = refl
@@ -76,7 +83,7 @@ early_status _ small e = tt
 
 pub usage_none : (told : Option Named) (task : Option Task) (input old new : Option (List ℕ)) → AnswersTo told task input old new Usage → task ≡ None
 usage_none told None input old new a = refl
-usage_none told (Some (Translating name)) input old new a = absurd a
+usage_none told (Some (Translating d names)) input old new a = absurd a
 usage_none told (Some (Running steps name)) input old new a = absurd a
 
 pub nothing_status : (o : Outcome) → NothingAnswer o → (status_of o ≡ 240) ⊎ (status_of o ≡ 245)
@@ -84,47 +91,50 @@ nothing_status Usage a = inl refl
 nothing_status OutOfMemory a = inr refl
 nothing_status _ a = absurd a
 
-pub missing_lacks : (told : Option Named) (task : Option Task) (input old new : Option (List ℕ)) → AnswersTo told task input old new Missing → Lacks told (name_of task)
-missing_lacks told None input old new a = absurd a
-missing_lacks told (Some (Translating name)) input old new a = a
-missing_lacks told (Some (Running steps name)) input old new a = a
+pub missing_lacks : (told : Option Named) (task : Option Task) (input old new : Option (List ℕ)) (o : Outcome) → IsMissing o → AnswersTo told task input old new o → LacksOne told task
+missing_lacks told None input old new (Missing file) m a = absurd a
+missing_lacks told (Some (Translating d names)) input old new (Missing file) m a = (file, a)
+missing_lacks told (Some (Running steps name)) input old new (Missing file) m a = a.0
+missing_lacks told task input old new _ m a = absurd m
 
 -- ---- a translation
 
-pub done_translates : (told : Option Named) (name : List ℕ) (old new : Option (List ℕ)) (o : Outcome) → TranslationAnswer told name old new o → status_of o ≡ 0 → Translates told name old new
-done_translates told name old new Done a e = a
-done_translates told name old new (Ended status) a e = absurd a
-done_translates told name old new _ a e = absurd (omega (arith, e))
+pub done_translates : (told : Option Named) (d : Dialect) (names : List (List ℕ)) (old new : Option (List ℕ)) (o : Outcome) → TranslationAnswer told d names old new o → status_of o ≡ 0 → Translates told d names old new
+done_translates told d names old new Done a e = a
+done_translates told d names old new (Ended status) a e = absurd a
+done_translates told d names old new _ a e = absurd (omega (arith, e))
 
-pub status_refuses : (told : Option Named) (name : List ℕ) (old new : Option (List ℕ)) (o : Outcome) → TranslationAnswer told name old new o → status_of o ≡ 241 → Refuses told name
-status_refuses told name old new TooLong a e = a
-status_refuses told name old new Unbuilt a e = a
-status_refuses told name old new (BadText kind line) a e = absurd a
-status_refuses told name old new (Ended status) a e = absurd a
-status_refuses told name old new _ a e = absurd (omega (arith, e))
+pub status_refuses : (told : Option Named) (d : Dialect) (names : List (List ℕ)) (old new : Option (List ℕ)) (o : Outcome) → TranslationAnswer told d names old new o → status_of o ≡ 241 → Refused told d names
+status_refuses told d names old new TooLong a e = inl a
+status_refuses told d names old new (BadSource fault file line) a e = inr (not_accepted told d names fault file line a)
+status_refuses told d names old new (BadText kind line) a e = absurd a
+status_refuses told d names old new (Ended status) a e = absurd a
+status_refuses told d names old new _ a e = absurd (omega (arith, e))
 
-pub cut_translates : (told : Option Named) (name : List ℕ) (old new : Option (List ℕ)) (o : Outcome) → TranslationAnswer told name old new o → status_of o ≡ 244 → TranslatesPart told name old new
-cut_translates told name old new WriteFault a e = a
-cut_translates told name old new (Ended status) a e = absurd a
-cut_translates told name old new _ a e = absurd (omega (arith, e))
+pub cut_translates : (told : Option Named) (d : Dialect) (names : List (List ℕ)) (old new : Option (List ℕ)) (o : Outcome) → TranslationAnswer told d names old new o → status_of o ≡ 244 → TranslatesPart told d names old new
+cut_translates told d names old new WriteFault a e = a
+cut_translates told d names old new (Ended status) a e = absurd a
+cut_translates told d names old new _ a e = absurd (omega (arith, e))
 
-accepted_translated : (files : Named) (name source : List ℕ) (ws : List Writing) (old new : Option (List ℕ)) (o : Outcome) → files name ≡ Some source → Accepts source ws
-    → TranslationAnswer (Some files) name old new o → (o ≡ ReadFault → ⊥) → (o ≡ WriteFault → ⊥) → (status_of o ≡ 0) ⊎ (status_of o ≡ 245)
-accepted_translated files name source ws old new Done is accepted a r w = inl refl
-accepted_translated files name source ws old new OutOfMemory is accepted a r w = inr refl
-accepted_translated files name source ws old new TooLong is accepted a r w = absurd (subst (λ f. HasFile f (λ bytes. (v : List Writing) → Accepts bytes v → ⊥)) is a ws accepted)
-accepted_translated files name source ws old new Unbuilt is accepted a r w = absurd (subst (λ f. HasFile f (λ bytes. (v : List Writing) → Accepts bytes v → ⊥)) is a ws accepted)
-accepted_translated files name source ws old new Missing is accepted a r w = absurd cc
-accepted_translated files name source ws old new ReadFault is accepted a r w = absurd (r refl)
-accepted_translated files name source ws old new WriteFault is accepted a r w = absurd (w refl)
-accepted_translated files name source ws old new _ is accepted a r w = absurd a
+accepted_translated : (files : Named) (d : Dialect) (names : List (List ℕ)) (texts : List NamedBytes) (ws : List Writing) (old new : Option (List ℕ)) (o : Outcome) → AreTexts (Some files) names texts → Accepts d texts ws
+    → TranslationAnswer (Some files) d names old new o → (o ≡ ReadFault → ⊥) → (o ≡ WriteFault → ⊥) → (status_of o ≡ 0) ⊎ (status_of o ≡ 245)
+accepted_translated files d names texts ws old new Done are accepted a r w = inl refl
+accepted_translated files d names texts ws old new OutOfMemory are accepted a r w = inr refl
+accepted_translated files d names texts ws old new TooLong are accepted a r w = absurd (let long = passes_long files names texts 8388608 are a in let short = accepted.short in omega (arith, long, short))
+accepted_translated files d names texts ws old new (BadSource fault file line) are accepted a r w =
+    let (others, others_are, none) = not_accepted (Some files) d names fault file line a in
+    absurd (none ws (subst (λ t. Accepts d t ws) (same_texts files names texts others are others_are) accepted))
+accepted_translated files d names texts ws old new (Missing file) are accepted a r w = absurd (all_there files names texts file are a)
+accepted_translated files d names texts ws old new ReadFault are accepted a r w = absurd (r refl)
+accepted_translated files d names texts ws old new WriteFault are accepted a r w = absurd (w refl)
+accepted_translated files d names texts ws old new _ are accepted a r w = absurd a
 
 -- where no fault rose, the translation is done, or memory was wanting
 pub completed : (told : Option Named) (words : List (List ℕ)) (input old new : Option (List ℕ)) (o : Outcome) → AsksForAccepted told words → AnswersTo told (task_asked words) input old new o
     → (o ≡ ReadFault → IsRunning (task_asked words)) → (o ≡ WriteFault → ⊥) → (status_of o ≡ 0) ⊎ (status_of o ≡ 245)
 completed None words input old new o asks a r w = absurd asks
-completed (Some files) words input old new o (name, source, ws, asked, is, accepted) a r w =
-    accepted_translated files name source ws old new o is accepted (subst (λ t. AnswersTo (Some files) t input old new o) asked a) (λ e. subst IsRunning asked (r e)) w
+completed (Some files) words input old new o (d, names, texts, ws, asked, are, accepted) a r w =
+    accepted_translated files d names texts ws old new o are accepted (subst (λ t. AnswersTo (Some files) t input old new o) asked a) (λ e. subst IsRunning asked (r e)) w
 
 -- ---- a run
 
@@ -140,7 +150,7 @@ ends_with told name steps input old new Spent a r = (Spent, refl, a)
 ends_with told name steps input old new (Stuck kind) a r = (Stuck kind, refl, a)
 ends_with told name steps input old new TooLong a r = absurd (not_of_run 241 (omega arith) (omega arith) r)
 ends_with told name steps input old new (BadText kind line) a r = absurd (not_of_run 241 (omega arith) (omega arith) r)
-ends_with told name steps input old new Missing a r = absurd (not_of_run 242 (omega arith) (omega arith) r)
+ends_with told name steps input old new (Missing file) a r = absurd (not_of_run 242 (omega arith) (omega arith) r)
 ends_with told name steps input old new ReadFault a r = absurd (not_of_run 243 (omega arith) (omega arith) r)
 ends_with told name steps input old new WriteFault a r = absurd (not_of_run 244 (omega arith) (omega arith) r)
 ends_with told name steps input old new OutOfMemory a r = absurd (not_of_run 245 (omega arith) (omega arith) r)
@@ -150,7 +160,7 @@ pub not_run : (told : Option Named) (name : List ℕ) (steps : ℕ) (input old n
 not_run told name steps input old new TooLong a e = told_more told name _ _ (λ bytes long. inl long) a
 not_run told name steps input old new (BadText kind line) a e = told_more told name (λ bytes. IsNoText bytes kind line) _ (λ bytes none. inr none.none) a
 not_run told name steps input old new (Ended status) a e = absurd (let small = a.0 in omega (arith, e, small))
-not_run told name steps input old new Unbuilt a e = absurd a
+not_run told name steps input old new (BadSource fault file line) a e = absurd a
 not_run told name steps input old new _ a e = absurd (omega (arith, e))
 
 pub run_cut : (told : Option Named) (name : List ℕ) (steps : ℕ) (input old new : Option (List ℕ)) (o : Outcome) → RunAnswer told name steps input old new o → status_of o ≡ 244
@@ -173,7 +183,7 @@ text_run files name source c steps input old new (Stuck kind) is short text a r 
 text_run files name source c steps input old new OutOfMemory is short text a r w = inr refl
 text_run files name source c steps input old new TooLong is short text a r w = absurd (let long = subst (λ f. HasFile f (λ bytes. 67108864 < length bytes)) is a in omega (arith, long, short))
 text_run files name source c steps input old new (BadText kind line) is short text a r w = absurd ((subst (λ f. HasFile f (λ bytes. IsNoText bytes kind line)) is a).none c text)
-text_run files name source c steps input old new Missing is short text a r w = absurd cc
+text_run files name source c steps input old new (Missing file) is short text a r w = absurd (let none = a.0 in cc)
 text_run files name source c steps input old new ReadFault is short text a r w = absurd (r refl)
 text_run files name source c steps input old new WriteFault is short text a r w = absurd (w refl)
 text_run files name source c steps input old new _ is short text a r w = absurd a

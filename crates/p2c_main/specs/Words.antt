@@ -1,34 +1,37 @@
 -- What the words after the program's name ask for.
-use Rattle.std.specs.Prelude.{◌≡◌, ℕ, Option, None, Some, List, [], ◌∷◌, ⊤, option_and_then, option_map, Result, IfOk}
-use Rattle.p2c_text.specs.declared.dialect.Dialect.TheVariants.{Iso}
-use Rattle.command_words.specs.Asked.{Asked, Translate, Run, asked}
-use Rattle.p2c_main.specs.declared.words.Chosen.{Chosen}
-use Rattle.p2c_main.specs.declared.words.Chosen.TheVariants as chosen
+use Rattle.std.specs.Prelude.{◌≡◌, ℕ, ◌&&◌, nat_le, nat_lt, if◌then◌else◌, Option, None, Some, List, [], length, slice_get, ⊤, option_and_then, option_map, Result, IfOk}
+use Rattle.p2c_text.specs.declared.dialect.Dialect.{Dialect}
+use Rattle.command_words.specs.Asked.{Asked, Translate, Run, Sample, asked, seen}
+use Rattle.command_words.specs.declared.setting.Setting.{Setting}
 
 -- what is built of what can be asked for
 pub data Task : Type 0 where
-  Translating : (name : List ℕ) → Task
+  Translating : (dialect : Dialect) (names : List (List ℕ)) → Task
   Running : (steps : ℕ) (name : List ℕ) → Task
 
--- one program of ISO to translate, or one text to run; nothing else is built
+-- files to translate, of which there are 1 to 64, or one text to run; nothing else is built
 abbrev pub task_of : Asked → Option Task
-task_of (Translate Iso (name ∷ [])) = Some (Translating name)
+task_of (Translate d names) = if nat_lt 0 (length names) && nat_le (length names) 64 then Some (Translating d names) else None
 task_of (Run steps name) = Some (Running steps name)
-task_of _ = None
+task_of (Sample seed size) = None
 
 -- the words ask for this task
 abbrev pub task_asked : List (List ℕ) → Option Task
 task_asked words = option_and_then task_of (asked words)
 
--- the name of a task's file, or nothing
-abbrev pub name_of : Option Task → List ℕ
-name_of None = []
-name_of (Some (Translating name)) = name
-name_of (Some (Running steps name)) = name
+abbrev pub or_nothing : Option (List ℕ) → List ℕ
+or_nothing None = []
+or_nothing (Some name) = name
 
--- the name of the file that is asked for, or nothing
-abbrev pub name_asked : List (List ℕ) → List ℕ
-name_asked words = name_of (task_asked words)
+-- the name of the file with this number, from 0 on, or nothing
+abbrev pub name_in : Option Asked → (file : ℕ) → List ℕ
+name_in None file = []
+name_in (Some (Translate d names)) file = or_nothing (slice_get names file)
+name_in (Some (Run steps name)) file = name
+name_in (Some (Sample seed size)) file = []
+
+abbrev pub name_asked : List (List ℕ) → (file : ℕ) → List ℕ
+name_asked words file = name_in (asked words) file
 
 -- the task is a run
 abbrev pub IsRunning : Option Task → Type 0
@@ -37,10 +40,6 @@ IsRunning _ = ⊥
 
 -- ---- what the code finds
 
-abbrev pub seen : Chosen → Task
-seen (chosen.Translating name) = Translating name.now
-seen (chosen.Running steps name) = Running steps name.now
-
--- the task was found, unless memory was wanting
-abbrev pub Finds : {E : Type 0} → Result (Option Chosen) E → Option Task → Type 0
-Finds found task = IfOk found (λ some. option_map seen some ≡ task)
+-- what is asked for was found, unless memory was wanting
+abbrev pub Finds : {E : Type 0} → Result (Option Setting) E → Option Asked → Type 0
+Finds found what = IfOk found (λ some. option_map seen some ≡ what)

@@ -3,7 +3,7 @@
 ghost use Rattle.std.specs.Prelude.{◌≡◌, ◌≢◌, ◌≤◌, ◌⊎◌, ℕ, Option, List, length};
 ghost use Rattle.p2c_outside.specs.Counts.{Rose};
 ghost use Rattle.p2c_outside.specs.Told.{Named, WhereTold};
-ghost use Rattle.p2c_main.specs.Answers.{IsEarly, RunAnswer};
+ghost use Rattle.p2c_main.specs.Answers.{IsEarly, IsMissing, RunAnswer};
 ghost use Rattle.p2c_main.specs.Executed.{InputFails, MayTake, ReadFails, TakesOnly, outcome_of_run};
 
 use crate::outcome::Outcome;
@@ -24,7 +24,7 @@ pub fn execute<F: Files, I: Source, O: Sink>(
     out: &mut O,
 ) -> Outcome
     ensures answer { RunAnswer (F.told files.old) name.now steps (I.left input.old) (O.written out.old) (O.written out.new) result }
-    ensures missing { result ≡ Outcome.Missing → Rose (F.missing files.old) (F.missing files.new) }
+    ensures missing { IsMissing result → Rose (F.missing files.old) (F.missing files.new) }
     ensures read_fault { result ≡ Outcome.ReadFault →
         ReadFails (Rose (F.faults files.old) (F.faults files.new)) (Rose (I.faults input.old) (I.faults input.new))
         ((input.new ≡ input.old) × (out.new ≡ out.old))
@@ -32,9 +32,9 @@ pub fn execute<F: Files, I: Source, O: Sink>(
     ensures ahead { MayTake (input.new ≡ input.old) (F.told files.old) name.now steps (I.left input.old) (I.left input.new) }
     ensures write_fault { result ≡ Outcome.WriteFault → Rose (O.faults out.old) (O.faults out.new) }
 
-    ensures none_missing { result ≢ Outcome.Missing → result ≢ Outcome.ReadFault →
+    ensures none_missing { (IsMissing result → ⊥) → result ≢ Outcome.ReadFault →
         F.missing files.new ≡ F.missing files.old }
-    ensures no_read_fault { result ≢ Outcome.Missing → result ≢ Outcome.ReadFault →
+    ensures no_read_fault { (IsMissing result → ⊥) → result ≢ Outcome.ReadFault →
         F.faults files.new ≡ F.faults files.old }
     ensures no_input_fault { result ≢ Outcome.ReadFault → I.faults input.new ≡ I.faults input.old }
     ensures no_write_fault { result ≢ Outcome.WriteFault → O.faults out.new ≡ O.faults out.old }
@@ -43,7 +43,7 @@ pub fn execute<F: Files, I: Source, O: Sink>(
 {
     let bytes = match read_whole(alloc, files, name, LONGEST_INPUT) {
         Ok(bytes) => bytes,
-        Err(refusal) => return refused(refusal),
+        Err(refusal) => return refused(0, refusal),
     };
     executed(alloc, &bytes, steps, input, out)
 }
@@ -58,7 +58,7 @@ fn executed<I: Source, O: Sink>(
     requires short { length bytes.now ≤ LONGEST_INPUT }
     ensures answer { (told : Option Named) (name : List ℕ) → WhereTold told name (λ b. bytes.now ≡ b) →
         RunAnswer told name steps (I.left input.old) (O.written out.old) (O.written out.new) result }
-    ensures there { result ≢ Outcome.Missing }
+    ensures there { IsMissing result → ⊥ }
     ensures input_failed { result ≡ Outcome.ReadFault →
         InputFails bytes.now steps (I.left input.old) (I.left input.new) (O.written out.old) (O.written out.new) }
     ensures ahead { (input.new ≡ input.old) ⊎ TakesOnly bytes.now steps (I.left input.old) (I.left input.new) }

@@ -2,7 +2,6 @@
 #![tactic(auto)]
 
 mod execution;
-mod lower;
 mod message;
 mod outcome;
 mod reading;

@@ -3,12 +3,13 @@
 ghost use Rattle.std.specs.Prelude.{◌≡◌, ◌++◌, OnOk, OnErr, codes, decimal};
 ghost use Rattle.p2c_outside.specs.Counts.{Rose};
 ghost use Rattle.p2c_outside.specs.Told.{Gains};
-ghost use Rattle.p2c_main.specs.Messages.{kind_text, message_of, stuck_text};
+ghost use Rattle.p2c_main.specs.Messages.{kind_text, message_of, source_text, stuck_text};
 ghost use Rattle.held_bytes.specs.Written.{GainsPart};
 
-use crate::outcome::Outcome;
+use crate::outcome::{Outcome, SourceFault};
 use c_grammar::fault::CTextKind;
 use c_meaning::StuckKind;
+use dialect_lexer::LexKind;
 use held_bytes::writing::{offer, offer_parts};
 use itoa::Buffer;
 use p2c_outside::{Failed, Sink};
@@ -26,9 +27,9 @@ pub fn report<S: Sink>(sink: &mut S, outcome: Outcome, name: &str) -> Result<(),
             b"p2c: usage: translate [-L iso|turbo|ucsd|hp] FILE.. | run [--steps N] FILE | sample --seed N --size N\n",
         ),
         Outcome::TooLong => offer(sink, b"p2c: text too long\n"),
-        Outcome::Unbuilt => offer_parts(sink, b"", name.as_bytes(), b":1: typing Unbuilt\n"),
-        Outcome::BadText { kind, line } => offer_place(sink, name, line, kind),
-        Outcome::Missing => offer_parts(sink, b"p2c: no file ", name.as_bytes(), b"\n"),
+        Outcome::BadSource { fault, line, .. } => offer_place(sink, name, line, source_line(fault)),
+        Outcome::BadText { kind, line } => offer_place(sink, name, line, kind_line(kind)),
+        Outcome::Missing { .. } => offer_parts(sink, b"p2c: no file ", name.as_bytes(), b"\n"),
         Outcome::ReadFault => offer(sink, b"p2c: read fault\n"),
         Outcome::WriteFault => offer(sink, b"p2c: write fault\n"),
         Outcome::OutOfMemory => offer(sink, b"p2c: out of memory\n"),
@@ -37,18 +38,35 @@ pub fn report<S: Sink>(sink: &mut S, outcome: Outcome, name: &str) -> Result<(),
     }
 }
 
-fn offer_place<S: Sink>(sink: &mut S, name: &str, line: u32, kind: CTextKind) -> Result<(), Failed>
-    ensures whole { OnOk result (Gains (S.written sink.old) (S.written sink.new) (name.now ++ codes ":" ++ decimal line ++ kind_text kind)) }
-    ensures part { OnErr result (GainsPart (S.written sink.old) (S.written sink.new) (name.now ++ codes ":" ++ decimal line ++ kind_text kind)) }
+/// A line that names a place, and then ends so.
+fn offer_place<S: Sink>(sink: &mut S, name: &str, line: u32, end: &[u8]) -> Result<(), Failed>
+    ensures whole { OnOk result (Gains (S.written sink.old) (S.written sink.new) (name.now ++ codes ":" ++ decimal line ++ end.now)) }
+    ensures part { OnErr result (GainsPart (S.written sink.old) (S.written sink.new) (name.now ++ codes ":" ++ decimal line ++ end.now)) }
     ensures fault { OnErr result (Rose (S.faults sink.old) (S.faults sink.new)) }
 {
     let mut buffer = Buffer::new();
     let digits = buffer.format(line).as_bytes();
     offer(sink, name.as_bytes())?;
-    offer_parts(sink, b":", digits, line_end(kind))
+    offer_parts(sink, b":", digits, end)
 }
 
-fn line_end(kind: CTextKind) -> &'static [u8]
+fn source_line(fault: SourceFault) -> &'static [u8]
+    ensures { result.now ≡ source_text fault }
+{
+    match fault {
+        SourceFault::Lexical(LexKind::BadByte) => b": lexical BadByte\n",
+        SourceFault::Lexical(LexKind::OpenComment) => b": lexical OpenComment\n",
+        SourceFault::Lexical(LexKind::OpenString) => b": lexical OpenString\n",
+        SourceFault::Lexical(LexKind::NumberTooBig) => b": lexical NumberTooBig\n",
+        SourceFault::Lexical(LexKind::RealLiteral) => b": lexical RealLiteral\n",
+        SourceFault::Lexical(LexKind::IncludeFile) => b": lexical IncludeFile\n",
+        SourceFault::Unexpected => b": syntax Unexpected\n",
+        SourceFault::TooDeep => b": syntax TooDeep\n",
+        SourceFault::Unbuilt => b": typing Unbuilt\n",
+    }
+}
+
+fn kind_line(kind: CTextKind) -> &'static [u8]
     ensures { result.now ≡ kind_text kind }
 {
     match kind {

@@ -1,5 +1,8 @@
 ghost use Rattle.std.specs.Prelude.{◌≤◌};
 
+mod texts;
+
+use crate::tests::texts::{QUEENS, TEXTS};
 use crate::top::p2c;
 use crate::words::Words;
 use p2c_outside::{CalmSource, MemoryFiles, MemorySink, MemorySource};
@@ -84,20 +87,25 @@ fn c_text(alloc: Global, written: &[u8]) -> Result<String, AllocError> {
 
 #[test]
 fn programs_that_write_literals_become_c(rt: HostRuntime) -> Result<(), Fail> {
-    for (source, written) in [
-        ("program h; begin writeln('hi') end.", "hi\n"),
-        ("program p; begin end.", ""),
-        ("program p; begin write('it''s'); writeln end.", "it's\n"),
+    for (dialect, source, written) in [
+        ("iso", "program h; begin writeln('hi') end.", "hi\n"),
+        ("iso", "program p; begin end.", ""),
         (
-            "program p (input, output);\r\n\tBEGIN\n;;Write ( 'a' );\nWRITELN('b');writeln\n;END\n.\x1a",
-            "ab\n\n",
+            "ucsd",
+            "program p_1; begin write('it''s'); writeln end.",
+            "it's\n",
         ),
-        ("PROGRAM P1x(OUTPUT,Output);begin write('''')end.", "'"),
-        ("program p; begin write('{}(*')end.", "{}(*"),
-        ("program p; { a } begin (* b } end.", ""),
+        ("hp", "program p; begin write(''); write('') end.", ""),
+        (
+            "turbo",
+            "begin write(#72'i'); WRITELN('!');;writeln end.",
+            "Hi!\n\n",
+        ),
+        ("iso", "program p; begin { x *) write('{}(*') end.", "{}(*"),
     ] {
         let bytes = Vec::from_slice(rt.alloc(), source.as_bytes())?;
-        let answer = run(rt.alloc(), &["translate", "a.pas"], bytes, 0, 9, 0)?;
+        let words = ["translate", "-L", dialect, "a.pas"];
+        let answer = run(rt.alloc(), &words, bytes, 0, 9, 0)?;
         let want = c_text(rt.alloc(), written.as_bytes())?;
         assert_eq!(rt; answer.out.as_slice(), want.as_bytes(), "{source}");
         assert_eq!(rt; answer.status, 0);
@@ -106,54 +114,186 @@ fn programs_that_write_literals_become_c(rt: HostRuntime) -> Result<(), Fail> {
     Ok(())
 }
 
+/// The word for a dialect, by its first letter.
+fn dialect_word(letter: u8) -> &'static str {
+    match letter {
+        b'i' => "iso",
+        b't' => "turbo",
+        b'u' => "ucsd",
+        _ => "hp",
+    }
+}
+
 #[test]
-fn all_other_texts_are_refused_and_nothing_is_written(rt: HostRuntime) -> Result<(), Fail> {
-    for source in [
-        "",
-        "program h; begin writeln(1) end.",
-        "program h; begin writeln('a', 'b') end.",
-        "program h; begin writeln('') end.",
-        "program h; begin write end.",
-        "program h; begin writeln() end.",
-        "program h; begin writeln('a end.",
-        "program h; begin writeln('a\nb') end.",
-        "program h; begin { end.",
-        "program h; begin end. x",
-        "program h; begin end",
-        "program h; begin begin end end.",
-        "program h(input; output); begin end.",
-        "program h(); begin end.",
-        "program h(x); begin end.",
-        "program begin; begin end.",
-        "program h_1; begin end.",
-        "program 1h; begin end.",
-        "program h begin end.",
-        "begin end.",
-        "program h; const a = 1; begin end.",
-        "program h; begin halt end.",
-        "program h; begin writeln('a') writeln('b') end.",
-        "program h; begin writeln(\"a\") end.",
+fn texts_of_four_dialects_are_translated_or_refused_at_a_line(rt: HostRuntime) -> Result<(), Fail> {
+    for (letters, source, want) in TEXTS {
+        for letter in letters.as_bytes() {
+            let bytes = Vec::from_slice(rt.alloc(), source.as_bytes())?;
+            let words = ["translate", "-L", dialect_word(*letter), "a.pas"];
+            let answer = run(rt.alloc(), &words, bytes, 0, 4096, 0)?;
+            let line = match *want {
+                "" => String::new(rt.alloc()),
+                _ => format!(in rt.alloc(); "a.pas:{want}\n")?,
+            };
+            assert_eq!(rt;
+                answer.err.as_slice(),
+                line.as_bytes(),
+                "{letters} {source}"
+            );
+            assert_eq!(rt; answer.status == 0, want.is_empty());
+            assert_eq!(rt; answer.out.is_empty(), !want.is_empty());
+        }
+    }
+    Ok(())
+}
+
+/// So many times one text, then another, and then as many times a third.
+fn nested(
+    alloc: Global,
+    count: usize,
+    open: &str,
+    inner: &str,
+    close: &str,
+) -> Result<Vec<u8>, AllocError> {
+    let mut text = String::from_str(alloc, "program p; begin ")?;
+    for _ in 0..count {
+        text.push_str(open)?;
+    }
+    text.push_str(inner)?;
+    for _ in 0..count {
+        text.push_str(close)?;
+    }
+    text.push_str(" end.")?;
+    Ok(text.into_bytes())
+}
+
+#[test]
+fn texts_of_at_most_400_levels_are_parsed(rt: HostRuntime) -> Result<(), Fail> {
+    for (count, open, inner, close, want) in [
+        (398, "begin ", "", " end", "typing Unbuilt"),
+        (399, "begin ", "", " end", "syntax TooDeep"),
+        (400, "begin ", "", " end", "syntax TooDeep"),
+        (397, "if a then ", "", "", "typing Unbuilt"),
+        (398, "if a then ", "", "", "syntax TooDeep"),
+        (397, "repeat ", "a", " until b", "typing Unbuilt"),
+        (400, "repeat ", "a", " until b", "syntax TooDeep"),
     ] {
-        let bytes = Vec::from_slice(rt.alloc(), source.as_bytes())?;
+        let source = nested(rt.alloc(), count, open, inner, close)?;
+        let answer = run(rt.alloc(), &["translate", "a.pas"], source, 0, 9, 0)?;
+        let line = format!(in rt.alloc(); "a.pas:1: {want}\n")?;
+        assert_eq!(rt; answer.err.as_slice(), line.as_bytes(), "{count} {open}");
+        assert_eq!(rt; answer.status, 241);
+    }
+    Ok(())
+}
+
+#[test]
+fn each_beginning_of_a_program_is_refused(rt: HostRuntime) -> Result<(), Fail> {
+    for length in 0..QUEENS.len() {
+        let bytes = Vec::from_slice(rt.alloc(), &QUEENS.as_bytes()[..length])?;
         let answer = run(rt.alloc(), &["translate", "a.pas"], bytes, 0, 9, 0)?;
-        assert_eq!(rt; answer.status, 241, "{source}");
-        assert_eq!(rt;
-            answer.err.as_slice(),
-            b"a.pas:1: typing Unbuilt\n".as_slice()
-        );
+        assert_eq!(rt; answer.status, 241, "{length}");
         assert_eq!(rt; answer.out.len(), 0);
     }
     Ok(())
 }
 
 #[test]
+fn files_are_read_in_their_order(rt: HostRuntime) -> Result<(), Fail> {
+    for (words, status, line) in [
+        (
+            ["a.pas", "b.pas", "c.pas"],
+            241,
+            "b.pas:2: typing Unbuilt\n",
+        ),
+        (
+            ["b.pas", "a.pas", "c.pas"],
+            241,
+            "a.pas:1: typing Unbuilt\n",
+        ),
+        (
+            ["a.pas", "c.pas", "d.pas"],
+            241,
+            "d.pas:3: lexical OpenComment\n",
+        ),
+        (
+            ["e.pas", "c.pas", "d.pas"],
+            241,
+            "d.pas:3: lexical OpenComment\n",
+        ),
+        (
+            ["a.pas", "e.pas", "c.pas"],
+            241,
+            "e.pas:1: syntax Unexpected\n",
+        ),
+        (["a.pas", "x.pas", "d.pas"], 242, "p2c: no file x.pas\n"),
+        (["y.pas", "x.pas", "d.pas"], 242, "p2c: no file y.pas\n"),
+    ] {
+        let answer = run_files(rt.alloc(), &words)?;
+        assert_eq!(rt; answer.err.as_slice(), line.as_bytes());
+        assert_eq!(rt; answer.status, status);
+        assert_eq!(rt; answer.out.len(), 0);
+    }
+    Ok(())
+}
+
+/// Translates files of some texts under these names, where each is there.
+fn run_files(alloc: Global, names: &[&str]) -> Result<Answer, AllocError> {
+    let mut list = Vec::new(alloc);
+    list.push(String::from_str(alloc, "translate")?)?;
+    for name in names {
+        list.push(String::from_str(alloc, name)?)?;
+    }
+    let mut texts = Vec::new(alloc);
+    for (name, source) in [
+        ("a.pas", "program a; begin end."),
+        ("b.pas", "\nprogram b; begin end."),
+        ("c.pas", "program c; begin writeln('c') end."),
+        ("d.pas", "program d;\nbegin\n{ end."),
+        ("e.pas", "program e; begin"),
+    ] {
+        texts.push(Text {
+            name: String::from_str(alloc, name)?,
+            bytes: Vec::from_slice(alloc, source.as_bytes())?,
+        })?;
+    }
+    let mut files = MemoryFiles {
+        names: texts,
+        most: 7,
+        calls: 0,
+        fail: Vec::new(alloc),
+        missing: 0,
+        faults: 0,
+    };
+    let mut input = CalmSource {
+        bytes: Vec::new(alloc),
+        at: 0,
+    };
+    let mut out = MemorySink::new(alloc, 4096, 9, Vec::new(alloc))?;
+    let mut err = MemorySink::new(alloc, 4096, 7, Vec::new(alloc))?;
+    let words = Words { list };
+    let status = p2c(alloc, &words, &mut files, &mut input, &mut out, &mut err);
+    Ok(Answer {
+        status,
+        out: out.bytes,
+        err: err.bytes,
+    })
+}
+
+#[test]
 fn words_that_ask_for_nothing_get_the_usage(rt: HostRuntime) -> Result<(), Fail> {
-    let asked: [&[&str]; 8] = [
+    let asked: [&[&str]; 14] = [
         &[],
         &["frob"],
         &["translate"],
         &["translate", "-a.pas"],
-        &["translate", "a.pas", "a.pas"],
+        &["translate", "-L", "a.pas"],
+        &["translate", "-L", "basic", "a.pas"],
+        &["translate", "-L", "iso", "-L", "hp", "a.pas"],
+        &["translate", "--help"],
+        &["sample", "--seed", "1", "--size", "0"],
+        &["sample", "--seed", "1", "--size", "1"],
+        &["run", "--steps", "1000000000000000001", "a.pas"],
         &["TRANSLATE", "a.pas"],
         &["run", "a.pas", "a.pas"],
         &["run", "--steps", "0", "a.pas"],
@@ -198,7 +338,7 @@ fn faults_of_the_outside_are_answered(rt: HostRuntime) -> Result<(), Fail> {
 fn a_text_of_one_byte_over_the_limit_is_too_long(rt: HostRuntime) -> Result<(), Fail> {
     for (length, line) in [
         (8_388_609, "p2c: text too long\n"),
-        (8_388_608, "a.pas:1: typing Unbuilt\n"),
+        (8_388_608, "a.pas:1: syntax Unexpected\n"),
     ] {
         let source = vec![in rt.alloc(); b' '; length]?;
         let answer = run(rt.alloc(), &["translate", "a.pas"], source, 0, 9, 0)?;

@@ -1,20 +1,25 @@
 //! The top call.
 
-ghost use Rattle.std.specs.Prelude.{◌≡◌, ◌≢◌, ◌⊎◌, ℕ, None, Some, IfErr, Option, List};
+ghost use Rattle.std.specs.Prelude.{◌≡◌, ◌≢◌, ◌⊎◌, ℕ, None, Some, IfErr, Option, List, option_and_then};
+ghost use Rattle.p2c_text.specs.declared.dialect.Dialect.{Dialect};
+ghost use Rattle.command_words.specs.Asked.{Asked, seen};
 ghost use Rattle.p2c_outside.specs.Counts.{Rose};
-ghost use Rattle.p2c_main.specs.Answers.{Answer, Counts, Reports, RunInput, Stays};
+ghost use Rattle.p2c_main.specs.Answers.{Answer, Counts, LacksOne, Reports, RunInput, Stays};
 ghost use Rattle.p2c_main.specs.Executed.{AsksForText, CutsOff, EndsWith, IsOfRun, MayExecutePart, MayTake, NotRun, OfFile, ReadFails};
-ghost use Rattle.p2c_main.specs.Reading.{Lacks};
-ghost use Rattle.p2c_main.specs.Words.{Finds, IsRunning, Running, Task, Translating, name_asked, seen, task_asked};
-ghost use Rattle.p2c_main.specs.Translated.{AsksForAccepted, Translates, TranslatesPart, Refuses};
+ghost use Rattle.p2c_main.specs.Words.{Finds, IsRunning, Running, Translating, task_asked, task_of};
+ghost use Rattle.p2c_main.specs.Translated.{AsksForAccepted, Refused, Translates, TranslatesPart};
 
 use crate::execution::execute;
 use crate::message::report;
 use crate::outcome::Outcome;
 use crate::translation::translate;
-use crate::words::{Chosen, Words, asked_task, name_or_nothing};
+use crate::words::{Words, asked, name_or_nothing};
+use command_words::Setting;
 use p2c_outside::{Files, Sink, Source};
 use std::alloc::{AllocError, Global};
+
+/// The most files of one translation.
+const MOST_FILES: usize = 64;
 
 /// What the words after the program's name ask for, done over this outside. The answer is the
 /// status with which the program ends.
@@ -30,20 +35,20 @@ pub fn p2c<F: Files, I: Source, O: Sink, E: Sink>(
     ensures usage { result ≡ 240 → task_asked words.now ≡ None }
     ensures asked { task_asked words.now ≡ None → (result ≡ 240) ⊎ (result ≡ 245) }
     ensures missing { result ≡ 242 → Rose (F.missing files.old) (F.missing files.new) }
-    ensures absent { result ≡ 242 → Lacks (F.told files.old) (name_asked words.now) }
+    ensures absent { result ≡ 242 → LacksOne (F.told files.old) (task_asked words.now) }
     ensures read_fault { result ≡ 243 → Rose (F.faults files.old) (F.faults files.new)
         ⊎ (IsRunning (task_asked words.now) × Rose (I.faults input.old) (I.faults input.new)) }
     ensures write_fault { result ≡ 244 → Rose (O.faults out.old) (O.faults out.new) }
 
     // a translation: which texts are accepted, and what the output took
-    ensures refused { (name : List ℕ) → task_asked words.now ≡ Some (Translating name) →
-        result ≡ 241 → Refuses (F.told files.old) name }
-    ensures done { (name : List ℕ) → task_asked words.now ≡ Some (Translating name) →
-        result ≡ 0 → Translates (F.told files.old) name (O.written out.old) (O.written out.new) }
-    ensures cut { (name : List ℕ) → task_asked words.now ≡ Some (Translating name) →
-        result ≡ 244 → TranslatesPart (F.told files.old) name (O.written out.old) (O.written out.new) }
+    ensures refused { (d : Dialect) (names : List (List ℕ)) → task_asked words.now ≡ Some (Translating d names) →
+        result ≡ 241 → Refused (F.told files.old) d names }
+    ensures done { (d : Dialect) (names : List (List ℕ)) → task_asked words.now ≡ Some (Translating d names) →
+        result ≡ 0 → Translates (F.told files.old) d names (O.written out.old) (O.written out.new) }
+    ensures cut { (d : Dialect) (names : List (List ℕ)) → task_asked words.now ≡ Some (Translating d names) →
+        result ≡ 244 → TranslatesPart (F.told files.old) d names (O.written out.old) (O.written out.new) }
 
-    // where no fault rose, an accepted text is translated, or memory was wanting
+    // where no fault rose, accepted texts are translated, or memory was wanting
     ensures complete { AsksForAccepted (F.told files.old) words.now →
         (Rose (F.faults files.old) (F.faults files.new) → ⊥) → (Rose (O.faults out.old) (O.faults out.new) → ⊥) →
         (result ≡ 0) ⊎ (result ≡ 245) }
@@ -87,29 +92,29 @@ pub fn p2c<F: Files, I: Source, O: Sink, E: Sink>(
     ensures message { Reports result words.now (F.told files.old) (I.left input.old) (O.written out.old) (O.written out.new)
         (E.written err.old) (E.written err.new) (E.faults err.old) (E.faults err.new) }
 {
-    let asked = asked_task(alloc, words);
+    let asked = asked(alloc, words);
     let outcome = attempt(alloc, &asked, files, input, out);
-    let _ = report(err, outcome, name_or_nothing(&asked));
+    let _ = report(err, outcome, name_or_nothing(&asked, outcome.file()));
     outcome.status()
 }
 
 /// Does what was asked for, where memory sufficed to find it.
 fn attempt<F: Files, I: Source, O: Sink>(
     alloc: Global,
-    asked: &Result<Option<Chosen<'_>>, AllocError>,
+    asked: &Result<Option<Setting<'_>>, AllocError>,
     files: &mut F,
     input: &mut I,
     out: &mut O,
 ) -> Outcome
-    ensures answers { (task : Option Task) → Finds asked.now task →
-        Answer (F.told files.old) task (I.left input.old) (O.written out.old) (O.written out.new) result }
-    ensures counts { (task : Option Task) → Finds asked.now task →
-        Counts task (F.missing files.old) (F.missing files.new) (F.faults files.old) (F.faults files.new)
+    ensures answers { (what : Option Asked) → Finds asked.now what →
+        Answer (F.told files.old) (option_and_then task_of what) (I.left input.old) (O.written out.old) (O.written out.new) result }
+    ensures counts { (what : Option Asked) → Finds asked.now what →
+        Counts (option_and_then task_of what) (F.missing files.old) (F.missing files.new) (F.faults files.old) (F.faults files.new)
         (I.faults input.old) (I.faults input.new) (O.faults out.old) (O.faults out.new) result }
-    ensures stays { (task : Option Task) → Finds asked.now task →
-        Stays task input.old input.new out.old out.new result }
-    ensures of_input { (task : Option Task) → Finds asked.now task →
-        RunInput task (Rose (F.faults files.old) (F.faults files.new)) (Rose (I.faults input.old) (I.faults input.new))
+    ensures stays { (what : Option Asked) → Finds asked.now what →
+        Stays (option_and_then task_of what) input.old input.new out.old out.new result }
+    ensures of_input { (what : Option Asked) → Finds asked.now what →
+        RunInput (option_and_then task_of what) (Rose (F.faults files.old) (F.faults files.new)) (Rose (I.faults input.old) (I.faults input.new))
         ((input.new ≡ input.old) × (out.new ≡ out.old)) (input.new ≡ input.old)
         (F.told files.old) (I.left input.old) (I.left input.new) (O.written out.old) (O.written out.new) result }
     ensures wanting { IfErr asked.now (λ error. result ≡ Outcome.OutOfMemory) }
@@ -117,7 +122,7 @@ fn attempt<F: Files, I: Source, O: Sink>(
     ensures same { F.told files.new ≡ F.told files.old }
 {
     match asked {
-        Ok(Some(task)) => perform(alloc, task, files, input, out),
+        Ok(Some(setting)) => perform(alloc, setting, files, input, out),
         Ok(None) => Outcome::Usage,
         Err(_) => Outcome::OutOfMemory,
     }
@@ -125,23 +130,32 @@ fn attempt<F: Files, I: Source, O: Sink>(
 
 fn perform<F: Files, I: Source, O: Sink>(
     alloc: Global,
-    task: &Chosen<'_>,
+    setting: &Setting<'_>,
     files: &mut F,
     input: &mut I,
     out: &mut O,
 ) -> Outcome
-    ensures asked { result ≢ Outcome.Usage }
-    ensures answers { Answer (F.told files.old) (Some (seen task.now)) (I.left input.old) (O.written out.old) (O.written out.new) result }
-    ensures counts { Counts (Some (seen task.now)) (F.missing files.old) (F.missing files.new) (F.faults files.old) (F.faults files.new)
+    ensures unread { result ≡ Outcome.Usage → files.new ≡ files.old }
+    ensures answers { Answer (F.told files.old) (task_of (seen setting.now)) (I.left input.old) (O.written out.old) (O.written out.new) result }
+    ensures counts { Counts (task_of (seen setting.now)) (F.missing files.old) (F.missing files.new) (F.faults files.old) (F.faults files.new)
         (I.faults input.old) (I.faults input.new) (O.faults out.old) (O.faults out.new) result }
-    ensures stays { Stays (Some (seen task.now)) input.old input.new out.old out.new result }
-    ensures of_input { RunInput (Some (seen task.now)) (Rose (F.faults files.old) (F.faults files.new)) (Rose (I.faults input.old) (I.faults input.new))
+    ensures stays { Stays (task_of (seen setting.now)) input.old input.new out.old out.new result }
+    ensures of_input { RunInput (task_of (seen setting.now)) (Rose (F.faults files.old) (F.faults files.new)) (Rose (I.faults input.old) (I.faults input.new))
         ((input.new ≡ input.old) × (out.new ≡ out.old)) (input.new ≡ input.old)
         (F.told files.old) (I.left input.old) (I.left input.new) (O.written out.old) (O.written out.new) result }
     ensures same { F.told files.new ≡ F.told files.old }
 {
-    match task {
-        Chosen::Translating(name) => translate(alloc, files, name, out),
-        Chosen::Running(steps, name) => execute(alloc, files, name, *steps, input, out),
+    match setting {
+        Setting::Translate {
+            dialect,
+            files: names,
+        } => {
+            if names.is_empty() || names.len() > MOST_FILES {
+                return Outcome::Usage;
+            }
+            translate(alloc, files, *dialect, names.as_slice(), out)
+        }
+        Setting::Run { steps, file } => execute(alloc, files, file, *steps, input, out),
+        Setting::Sample { .. } => Outcome::Usage,
     }
 }

@@ -1,71 +1,79 @@
-//! A file translated.
+//! Files translated.
 
-ghost use Rattle.std.specs.Prelude.{◌≡◌, ◌≢◌, ◌≤◌, ◌⊎◌, IfOk, option_map, length};
+ghost use Rattle.std.specs.Prelude.{◌≡◌, ◌≢◌, ◌≤◌, ◌<◌, ◌⊎◌, length, map};
 ghost use Rattle.p2c_outside.specs.Counts.{Rose};
 ghost use Rattle.p2c_outside.specs.Told.{Gains};
-ghost use Rattle.p2c_main.specs.Reading.{Lacks};
-ghost use Rattle.p2c_main.specs.Translated.{IsMade, IsOfTranslation, Translates, TranslatesPart, Refuses};
 ghost use Rattle.held_bytes.specs.Written.{GainsPart};
+ghost use Rattle.p2c_main.specs.Answers.{IsMissing, TranslationAnswer};
+ghost use Rattle.p2c_main.specs.Translated.{IsOfTranslation, answer_to, at};
 
-use crate::lower::writer;
-use crate::outcome::Outcome;
-use crate::reading::{read_whole, refused};
+use crate::outcome::{Outcome, SourceFault};
+use crate::reading::{read_all, refused};
+use dialect_lexer::LexFault;
 use held_bytes::writing::offer;
-use literal_writers::written_by;
 use p2c_outside::{Files, Sink};
-use std::alloc::{AllocError, Global};
+use p2c_text::{Dialect, Span, Texts};
+use std::alloc::Global;
+use translate_core::Refusal;
+use unit_parser::SyntaxFault;
 
-/// The most bytes that the texts of one translation have together.
-pub const LONGEST_SOURCE: usize = 8_388_608;
-
-/// The C text of the file of this name, offered to `out`.
+/// The C text of the files of these names, offered to `out`.
 pub fn translate<F: Files, O: Sink>(
     alloc: Global,
     files: &mut F,
-    name: &str,
+    dialect: Dialect,
+    names: &[&str],
     out: &mut O,
 ) -> Outcome
-    ensures form { IsOfTranslation result }
-    ensures missing { result ≡ Outcome.Missing → Rose (F.missing files.old) (F.missing files.new) }
-    ensures absent { result ≡ Outcome.Missing → Lacks (F.told files.old) name.now }
+    requires some { 0 < length names.now }
+    requires few { length names.now ≤ 64 }
+    ensures answer { TranslationAnswer (F.told files.old) dialect (map (λ name. name.now) names.now) (O.written out.old) (O.written out.new) result }
+    ensures missing { IsMissing result → Rose (F.missing files.old) (F.missing files.new) }
     ensures read_fault { result ≡ Outcome.ReadFault → Rose (F.faults files.old) (F.faults files.new) }
     ensures write_fault { result ≡ Outcome.WriteFault → Rose (O.faults out.old) (O.faults out.new) }
-    ensures too_long { result ≡ Outcome.TooLong → Refuses (F.told files.old) name.now }
-    ensures unbuilt { result ≡ Outcome.Unbuilt → Refuses (F.told files.old) name.now }
-    ensures done { result ≡ Outcome.Done →
-        Translates (F.told files.old) name.now (O.written out.old) (O.written out.new) }
-    ensures cut { result ≡ Outcome.WriteFault →
-        TranslatesPart (F.told files.old) name.now (O.written out.old) (O.written out.new) }
 
-    ensures none_missing { result ≢ Outcome.Missing → result ≢ Outcome.ReadFault →
+    ensures none_missing { (IsMissing result → ⊥) → result ≢ Outcome.ReadFault →
         F.missing files.new ≡ F.missing files.old }
-    ensures no_read_fault { result ≢ Outcome.Missing → result ≢ Outcome.ReadFault →
+    ensures no_read_fault { (IsMissing result → ⊥) → result ≢ Outcome.ReadFault →
         F.faults files.new ≡ F.faults files.old }
     ensures no_write_fault { result ≢ Outcome.WriteFault → O.faults out.new ≡ O.faults out.old }
     ensures untouched { result ≢ Outcome.Done → result ≢ Outcome.WriteFault → out.new ≡ out.old }
     ensures same { F.told files.new ≡ F.told files.old }
 {
-    let source = match read_whole(alloc, files, name, LONGEST_SOURCE) {
-        Ok(source) => source,
-        Err(refusal) => return refused(refusal),
+    let files = match read_all(alloc, files, names) {
+        Ok(texts) => texts.into_vec(),
+        Err(unread) => return refused(unread.file, unread.refusal),
     };
-    match translated(alloc, &source) {
-        Ok(Some(text)) => written(out, &text),
-        Ok(None) => Outcome::Unbuilt,
-        Err(AllocError) => Outcome::OutOfMemory,
+    match translate_core::translate(alloc, dialect, &Texts { files }) {
+        Ok(text) => written(out, &text),
+        Err(refusal) => answer_to(&refusal),
     }
 }
 
-/// The C text, or `None` where the Pascal text is none of the form that is built.
-fn translated(alloc: Global, source: &[u8]) -> Result<Option<Vec<u8>>, AllocError>
-    requires { length source.now ≤ LONGEST_SOURCE }
-    ensures { IfOk result (λ found. IsMade source.now (option_map (λ text. text.items) found)) }
+/// The answer to a refusal: its kind, and the file and the line of its place.
+fn answer_to(refusal: &Refusal) -> Outcome
+    ensures { result ≡ answer_to refusal.now }
 {
-    let Some(written) = written_by(alloc, source)? else {
-        return Ok(None);
-    };
-    let program = writer(alloc, &written)?;
-    Ok(Some(c_printer::print(alloc, &program)?))
+    match refusal {
+        Refusal::TooLong => Outcome::TooLong,
+        Refusal::Lex(LexFault::At { kind, span }) => at(SourceFault::Lexical(*kind), *span),
+        Refusal::Syntax(SyntaxFault::Unexpected(span)) => at(SourceFault::Unexpected, *span),
+        Refusal::Syntax(SyntaxFault::TooDeep(span)) => at(SourceFault::TooDeep, *span),
+        Refusal::Unbuilt(span) => at(SourceFault::Unbuilt, *span),
+        Refusal::Lex(LexFault::Memory(_))
+        | Refusal::Syntax(SyntaxFault::Memory(_))
+        | Refusal::Memory(_) => Outcome::OutOfMemory,
+    }
+}
+
+fn at(fault: SourceFault, span: Span) -> Outcome
+    ensures { result ≡ at fault span }
+{
+    Outcome::BadSource {
+        fault,
+        file: span.file as usize,
+        line: span.line,
+    }
 }
 
 fn written<O: Sink>(out: &mut O, text: &[u8]) -> Outcome

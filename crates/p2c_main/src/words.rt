@@ -1,11 +1,10 @@
 //! The words after the program's name.
 
-ghost use Rattle.std.specs.Prelude.{◌≡◌, IfOk, option_map};
-ghost use Rattle.command_words.specs.Asked.{seen as seen_setting};
-ghost use Rattle.p2c_main.specs.Words.{Finds, name_of, seen, task_asked, task_of};
+ghost use Rattle.std.specs.Prelude.{◌≡◌, IfOk, map, option_map, slice_get};
+ghost use Rattle.command_words.specs.Asked.{asked, seen};
+ghost use Rattle.p2c_main.specs.Words.{Finds, name_in, or_nothing};
 
 use command_words::{Setting, parse_words};
-use p2c_text::Dialect;
 use std::alloc::{AllocError, Global};
 use std::marker::Model;
 
@@ -23,48 +22,29 @@ impl Model for Words {
     ghost view = { λ words. map string_bytes words.list.items };
 }
 
-/// What is done with the file of a name.
-#[derive(Clone, Copy, Debug)]
-pub enum Chosen<'a> {
-    /// It is translated, as one program of ISO.
-    Translating(&'a str),
-    /// It is run for at most so many steps.
-    Running(u64, &'a str),
-}
-
 /// What the words ask for.
-pub fn asked_task(alloc: Global, words: &Words) -> Result<Option<Chosen<'_>>, AllocError>
-    ensures { Finds result (task_asked words.now) }
+pub fn asked(alloc: Global, words: &Words) -> Result<Option<Setting<'_>>, AllocError>
+    ensures { Finds result (asked words.now) }
 {
-    match parse_words(alloc, words.list.as_slice())? {
-        Some(setting) => Ok(task_in(&setting)),
-        None => Ok(None),
-    }
+    parse_words(alloc, words.list.as_slice())
 }
 
-/// The name of the file that was asked for, or nothing.
-pub fn name_or_nothing<'a>(asked: &Result<Option<Chosen<'a>>, AllocError>) -> &'a str
-    ensures { IfOk asked.now (λ found. result.now ≡ name_of (option_map seen found)) }
+/// The name of the file with this number, from 0 on, or nothing.
+pub fn name_or_nothing<'a>(asked: &Result<Option<Setting<'a>>, AllocError>, file: usize) -> &'a str
+    ensures { IfOk asked.now (λ found. result.now ≡ name_in (option_map seen found) file) }
 {
     match asked {
-        Ok(Some(Chosen::Translating(name))) => name,
-        Ok(Some(Chosen::Running(_, name))) => name,
+        Ok(Some(Setting::Translate { files, .. })) => nth_name(files.as_slice(), file),
+        Ok(Some(Setting::Run { file: name, .. })) => *name,
         _ => "",
     }
 }
 
-fn task_in<'a>(setting: &Setting<'a>) -> Option<Chosen<'a>>
-    ensures { option_map seen result ≡ task_of (seen_setting setting.now) }
+fn nth_name<'a>(names: &[&'a str], file: usize) -> &'a str
+    ensures { result.now ≡ or_nothing (slice_get (map (λ name. name.now) names.now) file) }
 {
-    match setting {
-        Setting::Translate {
-            dialect: Dialect::Iso,
-            files,
-        } => match files.as_slice() {
-            [name] => Some(Chosen::Translating(*name)),
-            _ => None,
-        },
-        Setting::Run { steps, file } => Some(Chosen::Running(*steps, *file)),
-        _ => None,
+    match names.get(file) {
+        Some(name) => *name,
+        None => "",
     }
 }

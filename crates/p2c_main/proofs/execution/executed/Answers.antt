@@ -1,5 +1,5 @@
 use Rattle.std.proofs.Common.{ap, sym, subst, ◌∙◌}
-use Rattle.p2c_main.specs.Answers.{IsEarly, RunAnswer}
+use Rattle.p2c_main.specs.Answers.{IsEarly, IsMissing, RunAnswer}
 use Rattle.p2c_main.specs.Executed.{outcome_of_run}
 use Rattle.p2c_main.specs.declared.outcome.Outcome.{Outcome}
 use Rattle.p2c_main.proofs.Executions.{device_faults, early_kept, input_failed, kept_input, kept_map, kept_written, never_missing, run_answer, taken_only}
@@ -14,7 +14,7 @@ returns-clause-answer g c = λ told name whole.
     (kept_written c.args.input.now r.new.input c.args.out.now r.new.out g.O.Sink.written r.result r.ensures.untouched))
 
 pub returns-clause-there : goal.returns-clause-there
-returns-clause-there g c = λ e. never_missing c.run_text-answer.result (sym c.finished.ensures ∙ e)
+returns-clause-there g c = λ m. never_missing c.run_text-answer.result (subst IsMissing c.finished.ensures m)
 
 pub returns-clause-read_fault : goal.returns-clause-read_fault
 returns-clause-read_fault g c = λ e.

@@ -2,7 +2,6 @@ use Rattle.std.proofs.Common.{◌≡◌, ◌++◌, [], ◌∷◌, List, subst, d
 use Rattle.std.proofs.lemmas.Result.{on_err_weaker}
 use Rattle.p2c_outside.specs.Told.{Gains}
 use Rattle.held_bytes.specs.Written.{GainsPart}
-use Rattle.p2c_main.specs.Messages.{kind_text}
 use Rattle.p2c_main.proofs.PlaceLine.{line_part}
 use Rattle.p2c_main.proofs.message.offer_place.Goals as goal
 
@@ -15,7 +14,6 @@ returns-clause-part g c =
     let digits : c.as_bytes-digits.result.now ≡ decimal c.args.line = cc in
     let first = subst (Gains old mid) name c.in_ok-offer.ensures.whole in
     on_err_weaker c.offer_parts.result
-    (λ part. line_part old mid new c.args.name.now (58 ∷ []) (decimal c.args.line) (kind_text c.args.kind) first
-    (subst (λ k. GainsPart mid new ((58 ∷ []) ++ decimal c.args.line ++ k)) c.line_end.ensures
-    (subst (λ d. GainsPart mid new ((58 ∷ []) ++ d ++ c.line_end.result.now)) digits part)))
+    (λ part. line_part old mid new c.args.name.now (58 ∷ []) (decimal c.args.line) c.args.end.now first
+    (subst (λ d. GainsPart mid new ((58 ∷ []) ++ d ++ c.args.end.now)) digits part))
     c.offer_parts.ensures.part

@@ -4,10 +4,10 @@ pub returns-in-Usage-clause-part : goal.returns-in-Usage-clause-part
 returns-in-Usage-clause-part g c = rw c.in-Usage.is c.offer.ensures.part
 
 pub returns-in-Missing-clause-whole : goal.returns-in-Missing-clause-whole
-returns-in-Missing-clause-whole g c = rw (c.in-Missing.is, ← c.as_bytes-in-Missing.ensures.value) c.offer_parts-in-Missing.ensures.whole
+returns-in-Missing-clause-whole g c = rw (c.in-Missing.is, ← c.as_bytes.ensures.value) c.offer_parts.ensures.whole
 
 pub returns-in-Missing-clause-part : goal.returns-in-Missing-clause-part
-returns-in-Missing-clause-part g c = rw (c.in-Missing.is, ← c.as_bytes-in-Missing.ensures.value) c.offer_parts-in-Missing.ensures.part
+returns-in-Missing-clause-part g c = rw (c.in-Missing.is, ← c.as_bytes.ensures.value) c.offer_parts.ensures.part
 
 pub returns-in-ReadFault-clause-whole : goal.returns-in-ReadFault-clause-whole
 returns-in-ReadFault-clause-whole g c = rw c.in-ReadFault.is c.offer-in-ReadFault.ensures.whole

@@ -1,3 +1,0 @@
-mod Heads
-mod Programs
-mod Statements

@@ -1,6 +1,0 @@
-pub mod Form
-pub mod Head
-pub mod Lexemes
-pub mod Read
-pub mod Text
-pub mod Written

@@ -1,6 +1,0 @@
-use Rattle.std.proofs.Common.{◌≡◌, map, take}
-use Rattle.agreement.specs.Writers.{put_of}
-use Rattle.p2c_main.proofs.lower.puts.Given as goal
-
-abbrev pub invariant-loop-byte : goal.invariant-loop-byte
-invariant-loop-byte l = l.body.items ≡ map put_of (take l.byte-index l.bytes)

@@ -1,0 +1,4 @@
+pub mod Made
+pub mod NotAccepted
+pub mod Texts
+pub mod WriterLemmas

@@ -1,0 +1,22 @@
+-- What a translation is.
+use Rattle.std.specs.Prelude.{◌≡◌, ℕ, List}
+use Rattle.p2c_text.specs.declared.dialect.Dialect.{Dialect}
+use Rattle.p2c_text.specs.Text.{NamedBytes}
+use Rattle.c_tree.specs.declared.program.CProgram.{CProgram}
+use Rattle.agreement.specs.Agrees.{Agrees}
+use Rattle.agreement.specs.Writers.{Writing, typed_writer}
+use Rattle.program_shape.specs.OfTyped.{outline_of}
+use Rattle.program_shape.specs.Shape.{Shape}
+use Rattle.program_shape.specs.Laws.{NothingPerforms}
+use Rattle.translate_core.specs.Accepted.{Accepts}
+
+-- the C text agrees with the typed program of the texts, and its tree has the form of a translation of it
+pub record IsTranslation (d : Dialect) (texts : List NamedBytes) (text : List ℕ) : Type 0 where
+  pub writings : List Writing
+  pub accepts : Accepts d texts writings
+  pub agrees : Agrees (typed_writer d writings) text
+  pub shape : Shape NothingPerforms (outline_of (typed_writer d writings)) agrees.program
+
+-- the program is the tree of such a text
+abbrev pub IsTree : Dialect → List NamedBytes → CProgram → Type 0
+IsTree d texts program = (text : List ℕ) × (t : IsTranslation d texts text) × (t.agrees.program ≡ program)
