@@ -8,11 +8,11 @@ use Rattle.c_tree.specs.declared.program.CVariable.{CVariable}
 use Rattle.c_tree.specs.declared.program.CFunction.{CFunction}
 use Rattle.c_tree.specs.declared.program.CProgram.{CProgram}
 use Rattle.label_ways.specs.declared.level.Level.{Level}
-use Rattle.resolved_code.specs.declared.code.Code.{Code}
-use Rattle.resolved_code.specs.declared.code.Node.{Node}
-use Rattle.resolved_code.specs.declared.note.ProgramCode.{ProgramCode}
-use Rattle.resolved_code.specs.Codes.{IsResolved, IsNode, NotedList, IsCode, AreCodes}
-use Rattle.resolved_code.proofs.Noting.{noted_list}
+use Rattle.c_stepper.specs.declared.resolved.code.Code.{Code}
+use Rattle.c_stepper.specs.declared.resolved.code.Node.{Node}
+use Rattle.c_stepper.specs.declared.resolved.note.ProgramCode.{ProgramCode}
+use Rattle.c_stepper.specs.Codes.{IsResolved, IsNode, NotedList, IsCode, AreCodes}
+use Rattle.c_stepper.proofs.Noting.{noted_list}
 use Rattle.c_stepper.specs.declared.guide.Guide.{Guide}
 use Rattle.c_stepper.specs.declared.runner.Frame.{Frame}
 use Rattle.c_stepper.specs.Spots.{branch_of, branch_at, list_in}

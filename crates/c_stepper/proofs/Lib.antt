@@ -10,6 +10,8 @@ pub mod Statuses
 pub mod Stepping
 pub mod Seeking
 pub mod Machining
+pub mod Resolving
+pub mod Noting
 pub mod Coding
 pub mod Quickly
 pub mod QuickCalling

@@ -24,11 +24,11 @@ use Rattle.c_cells.specs.Slots.{int_block, HoldsInt}
 use Rattle.c_evaluation.specs.declared.numbers.Variable.{Variable}
 use Rattle.c_evaluation.specs.declared.numbers.Number.{Number}
 use Rattle.c_evaluation.specs.Numbers.{place_number, Resolves, Evaluates}
-use Rattle.resolved_code.specs.declared.code.Node.{Node}
-use Rattle.resolved_code.specs.declared.code.Resolved.{Resolved}
-use Rattle.resolved_code.specs.declared.code.Resolved.TheVariants as r
-use Rattle.resolved_code.specs.declared.code.ResolvedCall.{ResolvedCall}
-use Rattle.resolved_code.specs.Codes.{IsResolved, IsCall, IsTarget, ResolveAll, AreInts}
+use Rattle.c_stepper.specs.declared.resolved.code.Node.{Node}
+use Rattle.c_stepper.specs.declared.resolved.code.Resolved.{Resolved}
+use Rattle.c_stepper.specs.declared.resolved.code.Resolved.TheVariants as r
+use Rattle.c_stepper.specs.declared.resolved.code.ResolvedCall.{ResolvedCall}
+use Rattle.c_stepper.specs.Codes.{IsResolved, IsCall, IsTarget, ResolveAll, AreInts}
 use Rattle.c_stepper.specs.declared.call.Entry.{Entry}
 use Rattle.c_stepper.specs.declared.guide.Guide.{Guide}
 use Rattle.c_stepper.specs.declared.runner.Frame.{Frame}

@@ -15,10 +15,10 @@ use Rattle.c_evaluation.specs.declared.numbers.Variable.{Variable}
 use Rattle.c_evaluation.specs.Numbers.{Puts}
 use Rattle.c_evaluation.specs.Stores.{chosen}
 use Rattle.label_ways.specs.declared.level.Level.{Level}
-use Rattle.resolved_code.specs.declared.code.Node.{Node}
-use Rattle.resolved_code.specs.declared.code.Resolved.{Resolved}
-use Rattle.resolved_code.specs.declared.code.Resolved.TheVariants as r
-use Rattle.resolved_code.specs.Codes.{IsResolved, test_of, choice_of}
+use Rattle.c_stepper.specs.declared.resolved.code.Node.{Node}
+use Rattle.c_stepper.specs.declared.resolved.code.Resolved.{Resolved}
+use Rattle.c_stepper.specs.declared.resolved.code.Resolved.TheVariants as r
+use Rattle.c_stepper.specs.Codes.{IsResolved, test_of, choice_of}
 use Rattle.c_stepper.specs.declared.guide.Guide.{Guide}
 use Rattle.c_stepper.specs.declared.runner.Frame.{Frame}
 use Rattle.c_stepper.specs.declared.runner.Runner.{Runner}

@@ -2,7 +2,7 @@
 use Rattle.c_tree.specs.declared.program.CProgram.{CProgram}
 use Rattle.name_tables.specs.Tables.{Fits}
 use Rattle.label_ways.specs.Ways.{Guides}
-use Rattle.resolved_code.specs.Codes.{IsProgramCode}
+use Rattle.c_stepper.specs.Codes.{IsProgramCode}
 use Rattle.c_stepper.specs.declared.guide.Guide.{Guide}
 
 -- it has the places of the program's names, the ways to its labels and its code

@@ -5,5 +5,6 @@ pub mod Calls
 pub mod Marks
 pub mod Leaving
 pub mod Machines
+pub mod Codes
 pub mod Quick
 pub mod QuickCalls

@@ -9,10 +9,10 @@ use Rattle.c_meaning.specs.Steps.{Onward, do_statement, names_from, to_do}
 use Rattle.c_evaluation.specs.declared.numbers.Number.{Number}
 use Rattle.c_evaluation.specs.Numbers.{Chooses}
 use Rattle.label_ways.specs.declared.level.Level.{Level}
-use Rattle.resolved_code.specs.declared.code.Code.{Code}
-use Rattle.resolved_code.specs.declared.code.Node.{Node}
-use Rattle.resolved_code.specs.declared.note.ProgramCode.{ProgramCode}
-use Rattle.resolved_code.specs.Codes.{IsResolved, IsCode, IsProgramCode}
+use Rattle.c_stepper.specs.declared.resolved.code.Code.{Code}
+use Rattle.c_stepper.specs.declared.resolved.code.Node.{Node}
+use Rattle.c_stepper.specs.declared.resolved.note.ProgramCode.{ProgramCode}
+use Rattle.c_stepper.specs.Codes.{IsResolved, IsCode, IsProgramCode}
 use Rattle.c_stepper.specs.declared.guide.Guide.{Guide}
 use Rattle.c_stepper.specs.declared.runner.Frame.{Frame}
 use Rattle.c_stepper.specs.Guides.{IsGuide}

@@ -17,7 +17,7 @@ use Rattle.c_cells.specs.Slots.{int_block, HoldsInt}
 use Rattle.c_evaluation.specs.declared.numbers.Variable.{Variable}
 use Rattle.c_evaluation.specs.declared.numbers.Number.{Number}
 use Rattle.c_evaluation.specs.Numbers.{place_number, Evaluates}
-use Rattle.resolved_code.specs.declared.code.ResolvedCall.{ResolvedCall}
+use Rattle.c_stepper.specs.declared.resolved.code.ResolvedCall.{ResolvedCall}
 use Rattle.c_stepper.specs.declared.call.Entry.{Entry}
 use Rattle.c_stepper.specs.declared.guide.Guide.{Guide}
 use Rattle.c_stepper.specs.declared.runner.Frame.{Frame}

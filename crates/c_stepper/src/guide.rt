@@ -2,10 +2,10 @@
 ghost use Rattle.std.specs.Prelude.{IfOk};
 ghost use Rattle.c_stepper.specs.Guides.{IsGuide};
 
+use crate::resolved::ProgramCode;
 use c_tree::program::CProgram;
 use label_ways::ProgramWays;
 use name_tables::Tables;
-use resolved_code::ProgramCode;
 use std::alloc::{AllocError, Global};
 
 /// Where the names of a program stand, the ways to its labels, and its statements that reckon with

@@ -3,15 +3,15 @@ ghost use Rattle.std.specs.Prelude.{◌≡◌, ◌+◌, ◌<◌, ◌^◌, true, 
 ghost use Rattle.std.specs.Option.{option_copied};
 ghost use Rattle.c_tree.specs.declared.program.CProgram.{CProgram};
 ghost use Rattle.c_evaluation.specs.Numbers.{Puts, Chooses};
-ghost use Rattle.resolved_code.specs.Codes.{IsProgramCode};
+ghost use Rattle.c_stepper.specs.Codes.{IsProgramCode};
 ghost use Rattle.c_stepper.specs.Quick.{IsCodeOf, IsNodeAt, IsHere, GoesOn, Enters, TestGoes, ChoiceGoes, QuickStep};
 
 use crate::guide::Guide;
+use crate::resolved::{Code, Node, ProgramCode, Resolved};
 use crate::runner::Frame;
 use crate::spot::Spot;
 use c_cells::memory::Memory;
 use c_evaluation::numbers::{Number, Variable, put_number, tested};
-use resolved_code::{Code, Node, ProgramCode, Resolved};
 use std::alloc::AllocError;
 
 // ---- the code of a statement

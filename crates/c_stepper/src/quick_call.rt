@@ -11,13 +11,13 @@ use crate::call::Entry;
 use crate::guide::Guide;
 use crate::leave::Given;
 use crate::quick::node_here;
+use crate::resolved::{Resolved, ResolvedCall};
 use crate::runner::{Frame, Target};
 use c_cells::cell::{Cell, CellNode};
 use c_cells::memory::Memory;
 use c_cells::tree::CellTree;
 use c_evaluation::numbers::{Number, Variable, evaluated, place_number};
 use c_evaluation::types::{Layer, Object};
-use resolved_code::{Resolved, ResolvedCall};
 use std::alloc::{AllocError, Global};
 
 // ---- calls

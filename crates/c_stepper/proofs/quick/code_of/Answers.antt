@@ -1,6 +1,6 @@
 use Rattle.std.proofs.Common.{ℕ, List, Option, sym, ap, subst, ◌∙◌}
 use Rattle.std.specs.Prelude.{slice_get}
-use Rattle.resolved_code.specs.declared.code.Code.{Code}
+use Rattle.c_stepper.specs.declared.resolved.code.Code.{Code}
 use Rattle.c_stepper.specs.Quick.{IsCodeOf}
 use Rattle.c_stepper.proofs.Coding.{main_code, code_found}
 use Rattle.c_stepper.proofs.quick.code_of.Goals as goal

@@ -1,7 +1,7 @@
 use Rattle.std.proofs.Common.{◌≡◌, ℕ, ◌+◌, List, Some, Bor, sym, ap, subst, ◌∙◌}
 use Rattle.std.specs.Prelude.{slice_get, IfSome}
 use Rattle.label_ways.specs.declared.level.Level.{Level}
-use Rattle.resolved_code.specs.declared.code.Node.{Node}
+use Rattle.c_stepper.specs.declared.resolved.code.Node.{Node}
 use Rattle.c_stepper.proofs.Coding.{Walks, begins, walks, node_found}
 use Rattle.c_stepper.proofs.quick.node_at.Goals as goal
 
