@@ -2,12 +2,13 @@ ghost use Rattle.std.specs.Prelude.{◌≤◌};
 
 mod texts;
 
-use crate::tests::texts::{QUEENS, TEXTS};
+use crate::tests::texts::{DECLARATIONS, QUEENS, STATEMENTS, TEXTS, VALUES};
 use crate::top::p2c;
 use crate::words::Words;
 use p2c_outside::{CalmSource, MemoryFiles, MemorySink, MemorySource};
 use p2c_text::Text;
 use std::alloc::{AllocError, Global};
+use std::process::Abort;
 use std::test::Fail;
 
 const USAGE: &str =
@@ -124,24 +125,44 @@ fn dialect_word(letter: u8) -> &'static str {
     }
 }
 
+/// Translates the text in each of its dialects.
+fn check_text(
+    rt: &impl Abort,
+    alloc: Global,
+    letters: &str,
+    source: &str,
+    want: &str,
+) -> Result<(), Fail> {
+    for letter in letters.as_bytes() {
+        let bytes = Vec::from_slice(alloc, source.as_bytes())?;
+        let words = ["translate", "-L", dialect_word(*letter), "a.pas"];
+        let answer = run(alloc, &words, bytes, 0, 4096, 0)?;
+        let line = match want {
+            "" => String::new(alloc),
+            _ => format!(in alloc; "a.pas:{want}\n")?,
+        };
+        assert_eq!(rt;
+            answer.err.as_slice(),
+            line.as_bytes(),
+            "{letters} {source}"
+        );
+        assert_eq!(rt; answer.status == 0, want.is_empty());
+        assert_eq!(rt; answer.out.is_empty(), !want.is_empty());
+    }
+    Ok(())
+}
+
 #[test]
 fn texts_of_four_dialects_are_translated_or_refused_at_a_line(rt: HostRuntime) -> Result<(), Fail> {
-    for (letters, source, want) in TEXTS {
-        for letter in letters.as_bytes() {
-            let bytes = Vec::from_slice(rt.alloc(), source.as_bytes())?;
-            let words = ["translate", "-L", dialect_word(*letter), "a.pas"];
-            let answer = run(rt.alloc(), &words, bytes, 0, 4096, 0)?;
-            let line = match *want {
-                "" => String::new(rt.alloc()),
-                _ => format!(in rt.alloc(); "a.pas:{want}\n")?,
-            };
-            assert_eq!(rt;
-                answer.err.as_slice(),
-                line.as_bytes(),
-                "{letters} {source}"
-            );
-            assert_eq!(rt; answer.status == 0, want.is_empty());
-            assert_eq!(rt; answer.out.is_empty(), !want.is_empty());
+    for (before, rows, after) in [
+        ("", TEXTS, ""),
+        ("program p; ", DECLARATIONS, " begin end."),
+        ("program p; begin ", STATEMENTS, " end."),
+        ("program p; begin a := ", VALUES, " end."),
+    ] {
+        for (letters, text, want) in rows {
+            let source = format!(in rt.alloc(); "{before}{text}{after}")?;
+            check_text(&rt, rt.alloc(), *letters, source.as_str(), *want)?;
         }
     }
     Ok(())
