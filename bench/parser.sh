@@ -28,7 +28,7 @@ echo "parser, 8 MB: $large us; 1 MB: $small us; 8 MB takes $((large * 10 / small
 echo "fpc -s, 8 MB: $theirs us, $((theirs * 10 / large)) tenths of ours; $(grep -h 'Fatal\|lines compiled' "$folder/out" | head -n 1)"
 echo "memory, 8 MB: $memory kB, $((memory * 1024 / $(wc -c < "$folder/8.pas"))) bytes a byte"
 again 8000000 "" "(" "" > "$folder/open.pas"
-again 1600000 "program p; begin " "begin " "" > "$folder/begin.pas"
+again 1390000 "program p; begin " "begin " "" > "$folder/begin.pas"
 again 4000000 "program p; begin a := " "a+" "a end." > "$folder/sum.pas"
 again 8000000 "program p; begin " ";" " end." > "$folder/semicolons.pas"
 again 8000000 "program p; begin a := " "(" "" > "$folder/nested.pas"
