@@ -38,3 +38,4 @@ pub mod ExactFactors
 pub mod ExactConstants
 pub mod Unique
 pub mod WordsKnown
+pub mod Heights

@@ -23,10 +23,3 @@ has_rest Iso = false
 has_rest Turbo = true
 has_rest Ucsd = false
 has_rest Hp = true
-
--- `try`
-abbrev pub has_try : Dialect → Bool
-has_try Iso = false
-has_try Turbo = false
-has_try Ucsd = false
-has_try Hp = true

@@ -56,9 +56,6 @@ ReadsLongest {C} layout form p =
 abbrev pub Derives : Dialect → Span → ℕ → Expr → List Placed → List Placed → Type 0
 Derives d end levels e from rest = IsDerived d write_expr (formed_expr d) end levels e from rest
 
-abbrev pub BeginsExpr : Dialect → List Token → Type 0
-BeginsExpr d tokens = Begins d write_expr (formed_expr d) tokens
-
 abbrev pub MayBegin : Dialect → (outer level : ℕ) → List Token → Type 0
 MayBegin d outer level front = MayBeginIn d write_expr (formed_expr d) outer level front
 

@@ -25,3 +25,4 @@ pub mod ExactArms
 pub mod ExactCases
 pub mod ExactLevels
 pub mod ExactClauses
+pub mod Heights

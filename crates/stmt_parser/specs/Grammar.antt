@@ -10,7 +10,7 @@ use Rattle.pascal_tree.specs.declared.statements.Plain.{Plain, fold-Plain}
 use Rattle.pascal_tree.specs.declared.statements.Arm.{Arm, fold-Arm}
 use Rattle.pascal_tree.specs.declared.statements.Rest.{Rest, fold-Rest}
 use Rattle.pascal_tree.specs.declared.statements.Stmt.{Stmt, fold-Stmt}
-use Rattle.expr_parser.specs.Grammar.{IsTree, some_all, formed_args, formed_expr, formed_place}
+use Rattle.expr_parser.specs.Grammar.{some_all, formed_args, formed_expr, formed_place}
 use Rattle.expr_parser.specs.Dialects.{has_rest}
 use Rattle.expr_parser.specs.ConstantNodes.{formed_label, formed_case_label}
 use Rattle.stmt_parser.specs.Writing.{write_stmt}
@@ -93,6 +93,3 @@ formed_stmt d = fold-Stmt Formed Formed Formed Formed (of_plain d) (of_arm d) of
 -- no `else` follows the whole
 abbrev pub stands_alone : Dialect → Stmt → Bool
 stands_alone d s = alone (formed_stmt d s)
-
-abbrev pub IsStmt : Dialect → Stmt → Type 0
-IsStmt d s = IsTree d (write_stmt d) (stands_alone d) s

@@ -4,16 +4,13 @@ use Rattle.p2c_text.specs.declared.dialect.Dialect.{Dialect}
 use Rattle.p2c_text.specs.declared.place.Span.{Span}
 use Rattle.pascal_tree.specs.declared.statements.Stmt.{Stmt}
 use Rattle.expr_parser.specs.Tokens.{Token, Placed}
-use Rattle.expr_parser.specs.Text.{IsDerived, Begins, MayBeginIn, IsLongest, NoTree, NoneFits}
+use Rattle.expr_parser.specs.Text.{IsDerived, MayBeginIn, IsLongest, NoTree, NoneFits}
 use Rattle.stmt_parser.specs.Writing.{write_stmt}
 use Rattle.stmt_parser.specs.Grammar.{stands_alone}
 
 -- the statement is that of the tokens `from` up to `rest`, and has no more levels than this
 abbrev pub Derives : Dialect → Span → ℕ → Stmt → List Placed → List Placed → Type 0
 Derives d end levels s from rest = IsDerived d (write_stmt d) (stands_alone d) end levels s from rest
-
-abbrev pub BeginsStmt : Dialect → List Token → Type 0
-BeginsStmt d tokens = Begins d (write_stmt d) (stands_alone d) tokens
 
 abbrev pub MayBegin : Dialect → (outer level : ℕ) → List Token → Type 0
 MayBegin d outer level front = MayBeginIn d (write_stmt d) (stands_alone d) outer level front

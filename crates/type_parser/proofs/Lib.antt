@@ -23,3 +23,4 @@ pub mod ExactVariants
 pub mod ExactFields
 pub mod ExactFormals
 pub mod ExactLaws
+pub mod Heights

@@ -28,3 +28,4 @@ pub mod ExactBlocks
 pub mod ExactFiles
 pub mod ExactLaws
 pub mod Answered
+pub mod Heights

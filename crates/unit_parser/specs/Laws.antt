@@ -3,8 +3,10 @@ use Rattle.std.specs.Prelude.{◌≡◌, ◌⊎◌, ℕ, List, [], Ok, Err}
 use Rattle.p2c_text.specs.declared.dialect.Dialect.{Dialect}
 use Rattle.p2c_text.specs.declared.place.Span.{Span}
 use Rattle.pascal_tree.specs.declared.files.SourceFile.{SourceFile}
+use Rattle.pascal_tree.specs.Height.{height}
 use Rattle.token_parsing.specs.declared.refusal.Refusal.TheVariants.{Unexpected, TooDeep}
 use Rattle.expr_parser.specs.Tokens.{Placed, plain}
+use Rattle.expr_parser.specs.Layout.{height_of}
 use Rattle.expr_parser.specs.Grammar.{AreTokens}
 use Rattle.expr_parser.specs.Parsed.{place_left}
 use Rattle.expr_parser.specs.Text.{AreUnique}
@@ -38,3 +40,7 @@ UnexpectedIsFirst = (d : Dialect) (end : Span) (tokens : List Placed) (left : �
 abbrev pub TooDeepIsDeep : Type 0
 TooDeepIsDeep = (d : Dialect) (end : Span) (tokens : List Placed) (left : ℕ) → AreTokens d (plain tokens) → file d end 400 tokens ≡ Err (TooDeep left)
     → IsTooDeep d end tokens (place_left end tokens left)
+
+-- The levels of a text, which `Derives` bounds by 400, are its height.
+abbrev pub LevelsAreHeight : Type 0
+LevelsAreHeight = (d : Dialect) (f : SourceFile) → height_of (write_file d f) ≡ height f
