@@ -1,5 +1,4 @@
-# Writes a C text in the printed layout of at most so many bytes: awk -v bytes=N -f c_text.awk
-function put(line) { text = text line "\n" }
+# Writes a C text in the printed layout of at most so many bytes: awk -v bytes=N -f fill.awk -f c_text.awk
 
 # a function that calls the one before it
 function routine(i) {
@@ -43,15 +42,5 @@ BEGIN {
   put("};")
   put("int64_t g;")
   put("struct s r;")
-  head = text
-  last = "int main(void) {\n  p_1(INT64_C(1));\n  return INT64_C(0);\n}\n"
-  printf "%s", head
-  written = length(head) + length(last)
-  for (i = 1; ; i++) {
-    next_one = routine(i)
-    if (written + length(next_one) > bytes) break
-    printf "%s", next_one
-    written += length(next_one)
-  }
-  printf "%s", last
+  fill(text, "int main(void) {\n  p_1(INT64_C(1));\n  return INT64_C(0);\n}\n")
 }

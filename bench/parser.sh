@@ -17,8 +17,8 @@ compile() { fpc -Miso -s "-FE$folder" "$1" > "$folder/out" 2>&1 || true; }
 # so many times one text between two others
 again() { awk -v count="$1" -v first="$2" -v one="$3" -v last="$4" 'BEGIN { printf "%s", first; for (i = 0; i < count; i++) printf "%s", one; printf "%s", last }'; }
 
-awk -v bytes=8000000 -f "$top/bench/pascal_text.awk" > "$folder/8.pas"
-awk -v bytes=1000000 -f "$top/bench/pascal_text.awk" > "$folder/1.pas"
+awk -v bytes=8000000 -f "$top/bench/fill.awk" -f "$top/bench/pascal_text.awk" > "$folder/8.pas"
+awk -v bytes=1000000 -f "$top/bench/fill.awk" -f "$top/bench/pascal_text.awk" > "$folder/1.pas"
 "$parser" "$folder/8.pas"
 large=$(best 3 "$parser" "$folder/8.pas")
 small=$(best 3 "$parser" "$folder/1.pas")

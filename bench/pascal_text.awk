@@ -1,5 +1,4 @@
-# Writes a program of ISO Pascal of at most so many bytes: awk -v bytes=N -f pascal_text.awk
-function put(line) { text = text line "\n" }
+# Writes a program of ISO Pascal of at most so many bytes: awk -v bytes=N -f fill.awk -f pascal_text.awk
 
 # a procedure that calls the one before it
 function routine(i) {
@@ -32,15 +31,6 @@ function routine(i) {
 }
 
 BEGIN {
-  head = "program steps(output);\nvar table: array [1..16] of integer;\n    sum: integer;\n"
-  tail = "begin\n  sum := 0;\n  step1(1, sum);\n  writeln(sum)\nend.\n"
-  size = length(head) + length(tail)
-  printf "%s", head
-  for (i = 1; ; i++) {
-    one = routine(i)
-    if (size + length(one) > bytes) break
-    size += length(one)
-    printf "%s", one
-  }
-  printf "%s", tail
+  fill("program steps(output);\nvar table: array [1..16] of integer;\n    sum: integer;\n",
+    "begin\n  sum := 0;\n  step1(1, sum);\n  writeln(sum)\nend.\n")
 }

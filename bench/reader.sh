@@ -10,8 +10,8 @@ built reader_bench data/t.c
 folder=$(mktemp -d)
 trap 'rm -r "$folder"' EXIT
 
-awk -v bytes=10000000 -f "$top/bench/c_text.awk" > "$folder/10.c"
-awk -v bytes=1000000 -f "$top/bench/c_text.awk" > "$folder/1.c"
+awk -v bytes=10000000 -f "$top/bench/fill.awk" -f "$top/bench/c_text.awk" > "$folder/10.c"
+awk -v bytes=1000000 -f "$top/bench/fill.awk" -f "$top/bench/c_text.awk" > "$folder/1.c"
 "$reader" "$folder/10.c"
 compiler=$(best 5 gcc -std=c99 -fsyntax-only "$folder/10.c")
 large=$(best 5 "$reader" "$folder/10.c")

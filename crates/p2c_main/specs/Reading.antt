@@ -60,6 +60,3 @@ pub record ReadUpTo (told : Option Named) (names rest : List (List ℕ)) (texts 
 abbrev pub refusal_of : Result (List NamedBytes) Unread → Option ReadRefusal
 refusal_of (Ok texts) = None
 refusal_of (Err unread) = Some unread.refusal
-
-abbrev pub outcome_of_unread : Unread → Outcome
-outcome_of_unread unread = outcome_of unread.file unread.refusal

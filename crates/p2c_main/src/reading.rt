@@ -130,6 +130,7 @@ fn read_next<F: Files>(
     }
 }
 
+/// The same names: a loop takes on what `split_first` gave by this call.
 fn same<'s, 'a>(names: &'s [&'a str]) -> &'s [&'a str]
     ensures { result.now ≡ names.now }
 {

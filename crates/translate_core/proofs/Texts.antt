@@ -23,9 +23,6 @@ lex_more d file [] (l ∷ lists) t list all one = absurd all
 lex_more d file (b ∷ before) [] t list all one = absurd all
 lex_more d file (b ∷ before) (l ∷ lists) t list all one = (all.0, all.1, lex_more d (suc file) before lists t list all.2 (one.0, one.1 ∙ omega arith))
 
-pub lex_begun : (d : Dialect) (texts : List NamedBytes) → LexedUpTo d texts texts 0 []
-lex_begun d texts = record { before = []; is = refl; count = refl; lexed = tt }
-
 pub lex_next : (d : Dialect) (texts : List NamedBytes) (t : NamedBytes) (after : List NamedBytes) (file : ℕ) (lists : List FileTokens) (list : FileTokens) → LexedUpTo d texts (t ∷ after) file lists
     → IsLexed d file t.bytes list → LexedUpTo d texts after (file + 1) (lists ++ list ∷ [])
 lex_next d texts t after file lists list h one = record {
@@ -34,9 +31,6 @@ lex_next d texts t after file lists list h one = record {
   count = omega (arith, h.count, length_push h.before t);
   lexed = lex_more d 0 h.before lists t list h.lexed (one.0, one.1 ∙ h.count ∙ omega arith);
 }
-
-pub lex_done : (d : Dialect) (texts : List NamedBytes) (file : ℕ) (lists : List FileTokens) → LexedUpTo d texts [] file lists → AllLex d 0 texts lists
-lex_done d texts file lists h = subst (λ l. AllLex d 0 l lists) (sym (h.is ∙ append-nil h.before)) h.lexed
 
 -- ---- trees
 
@@ -48,9 +42,6 @@ derive_more d (b ∷ before) [] trees t list tree all one = absurd all
 derive_more d (b ∷ before) (l ∷ used) [] t list tree all one = absurd all
 derive_more d (b ∷ before) (l ∷ used) (a ∷ trees) t list tree all one = (all.0, derive_more d before used trees t list tree all.1 one)
 
-pub parse_begun : (d : Dialect) (texts : List NamedBytes) (lists : List FileTokens) → AllLex d 0 texts lists → ParsedUpTo d texts texts lists lists []
-parse_begun d texts lists lexed = record { before = []; used = []; is = refl; lists_are = refl; to_read = lexed; derived = (refl, refl) }
-
 pub parse_next : (d : Dialect) (texts : List NamedBytes) (t : NamedBytes) (after : List NamedBytes) (lists : List FileTokens) (list : FileTokens) (more : List FileTokens) (trees : List SourceFile) (tree : SourceFile)
     → ParsedUpTo d texts (t ∷ after) lists (list ∷ more) trees → DerivesText d t list tree → ParsedUpTo d texts after lists more (trees ++ tree ∷ [])
 parse_next d texts t after lists list more trees tree h one = record {
@@ -61,10 +52,6 @@ parse_next d texts t after lists list more trees tree h one = record {
   to_read = subst (λ n. AllLex d n after more) (omega (arith, length_push h.before t)) h.to_read.2;
   derived = derive_more d h.before h.used trees t list tree h.derived one;
 }
-
-pub parse_done : (d : Dialect) (texts : List NamedBytes) (lists : List FileTokens) (trees : List SourceFile) → ParsedUpTo d texts [] lists [] trees → AllDerive d texts lists trees
-parse_done d texts lists trees h =
-    subst (λ t. AllDerive d t lists trees) (sym (h.is ∙ append-nil h.before)) (subst (λ l. AllDerive d h.before l trees) (sym (h.lists_are ∙ append-nil h.used)) h.derived)
 
 pub as_many : (d : Dialect) (texts : List NamedBytes) (lists : List FileTokens) (trees : List SourceFile) → AllDerive d texts lists trees → 0 < length texts → 0 < length trees
 as_many d [] lists trees all some = omega (arith, some)
