@@ -1,4 +1,5 @@
 pub mod Trees
 pub mod Blocks
 pub mod FreshTrees
+pub mod LastStructs
 pub mod Slots

@@ -6,3 +6,4 @@ pub mod Falls
 pub mod Scalars
 pub mod Halts
 pub mod Slots
+pub mod Structs

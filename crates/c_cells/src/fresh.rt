@@ -1,5 +1,5 @@
 //! The trees with which blocks begin.
-ghost use Rattle.std.specs.Prelude.{◌≡◌, ◌++◌, ◌∷◌, [], Some, pos, ◌<◌, ◌^◌, IfOk, OnOk, length, reverse};
+ghost use Rattle.std.specs.Prelude.{◌≡◌, ◌++◌, ◌∷◌, [], Some, pos, ◌<◌, ◌^◌, IfOk, OnOk, length, reverse, take};
 ghost use Rattle.c_meaning.specs.Fresh.{fresh, fresh_block as fresh_variable, fresh_blocks, struct_tree, members_tree, member_tree, copies};
 ghost use Rattle.c_meaning.specs.Cells.{Int};
 ghost use Rattle.c_cells.specs.Scalars.{scalar_tree, scalar_cell};
@@ -8,7 +8,9 @@ ghost use Rattle.c_cells.specs.Slots.{int_cell};
 use crate::cell::{Cell, CellNode, copied};
 use crate::memory::{Block, Memory};
 use crate::slot::is_int;
+use crate::structs::Declared;
 use crate::tree::CellTree;
+use c_tree::Name;
 use c_tree::program::{CDeclaration, CMember, CVariable};
 use c_tree::types::{CBaseType, CType};
 use std::alloc::{AllocError, Global};
@@ -42,10 +44,10 @@ pub fn fresh_block(
     alloc: Global,
     zeroed: bool,
     heap: bool,
-    declared: &[CDeclaration],
+    declared: &Declared,
     of: &CType,
 ) -> Result<Block, AllocError>
-    ensures { IfOk result (λ block. block ≡ record { of = of.now; tree = fresh zeroed declared.now of.now; heap = heap }) }
+    ensures { IfOk result (λ block. block ≡ record { of = of.now; tree = fresh zeroed declared.now.list.now of.now; heap = heap }) }
 {
     Ok(Block {
         of: copy_type(alloc, of)?,
@@ -66,11 +68,11 @@ fn first_number(zeroed: bool) -> Option<i64>
 fn push_variable(
     alloc: Global,
     zeroed: bool,
-    declared: &[CDeclaration],
+    declared: &Declared,
     variable: &CVariable,
     memory: &mut Memory,
 ) -> Result<(), AllocError>
-    ensures { OnOk result (memory.new ≡ memory.old ++ Some (fresh_variable zeroed declared.now variable.now) ∷ []) }
+    ensures { OnOk result (memory.new ≡ memory.old ++ Some (fresh_variable zeroed declared.now.list.now variable.now) ∷ []) }
 {
     if is_int(&variable.of) {
         return memory.push_int(first_number(zeroed));
@@ -84,11 +86,11 @@ fn push_variable(
 pub fn push_fresh(
     alloc: Global,
     zeroed: bool,
-    declared: &[CDeclaration],
+    declared: &Declared,
     variables: &[CVariable],
     memory: &mut Memory,
 ) -> Result<usize, AllocError>
-    ensures blocks { OnOk result (memory.new ≡ memory.old ++ fresh_blocks zeroed declared.now variables.now) }
+    ensures blocks { OnOk result (memory.new ≡ memory.old ++ fresh_blocks zeroed declared.now.list.now variables.now) }
     ensures number { IfOk result (λ n. n ≡ length memory.new) }
     ensures small { OnOk result (length memory.new < 2 ^ 63) }
 {
@@ -109,44 +111,55 @@ fn scalar(zeroed: bool, zero: CellNode) -> CellTree
     })
 }
 
-/// The tree with which a block of a type begins, where these are the declarations.
-#[cycle(fresh)]
-#[tactic(auto, unfolding(c_meaning::specs::Fresh::fresh, c_meaning::specs::Fresh::object_tree))]
+/// The tree with which a block of a type begins.
+#[tactic(auto, using(crate::proofs::FreshTrees::among_all))]
 pub fn fresh(
     alloc: Global,
     zeroed: bool,
-    declared: &[CDeclaration],
+    declared: &Declared,
     of: &CType,
 ) -> Result<CellTree, AllocError>
-    ensures { IfOk result (λ tree. tree ≡ fresh zeroed declared.now of.now) }
+    ensures { IfOk result (λ tree. tree ≡ fresh zeroed declared.now.list.now of.now) }
+{
+    fresh_among(alloc, zeroed, declared, declared.list.len(), of)
+}
+
+/// The tree of a type where only the first declarations count, the `above` ones.
+#[cycle(fresh)]
+#[tactic(auto, unfolding(c_meaning::specs::Fresh::fresh, c_meaning::specs::Fresh::object_tree))]
+fn fresh_among(
+    alloc: Global,
+    zeroed: bool,
+    declared: &Declared,
+    above: usize,
+    of: &CType,
+) -> Result<CellTree, AllocError>
+    ensures { IfOk result (λ tree. tree ≡ fresh zeroed (take above declared.now.list.now) of.now) }
 {
     match (&of.base, of.stars) {
         (CBaseType::Int, 0) => Ok(scalar(zeroed, CellNode::Int(0))),
         (CBaseType::Word, 0) => Ok(scalar(zeroed, CellNode::Word(0))),
         (CBaseType::Byte, 0) => Ok(scalar(zeroed, CellNode::Byte(0))),
-        (CBaseType::Struct(name), 0) => fresh_struct(alloc, zeroed, declared, name.as_slice()),
+        (CBaseType::Struct(name), 0) => fresh_struct(alloc, zeroed, declared, above, name),
         _ => Ok(scalar(zeroed, CellNode::Null)),
     }
 }
 
 /// The tree of a struct: the last declaration with the name says what it is, by those above it.
 #[cycle(fresh)]
-#[tactic(auto, using(crate::proofs::FreshTrees::struct_found, crate::proofs::FreshTrees::struct_other, crate::proofs::FreshTrees::struct_typedef, crate::proofs::FreshTrees::struct_none))]
+#[tactic(auto, using(crate::proofs::FreshTrees::struct_found, crate::proofs::FreshTrees::struct_typedef, crate::proofs::FreshTrees::struct_none))]
 fn fresh_struct(
     alloc: Global,
     zeroed: bool,
-    declared: &[CDeclaration],
-    name: &[u8],
+    declared: &Declared,
+    above: usize,
+    name: &Name,
 ) -> Result<CellTree, AllocError>
-    ensures { IfOk result (λ tree. tree ≡ struct_tree zeroed (reverse declared.now) name.now) }
+    ensures { IfOk result (λ tree. tree ≡ struct_tree zeroed (reverse (take above declared.now.list.now)) name.now) }
 {
-    let mut left = declared.len();
-    while left > 0 {
-        left -= 1;
-        if let CDeclaration::Struct(found) = &declared[left] {
-            if name == found.name.as_slice() {
-                return fresh_members(alloc, zeroed, &declared[..left], found.members.as_slice());
-            }
+    if let Some(place) = declared.last_struct(name, above) {
+        if let CDeclaration::Struct(found) = &declared.list[place] {
+            return fresh_members(alloc, zeroed, declared, place, found.members.as_slice());
         }
     }
     Ok(CellTree::branch(Items::new(alloc)))
@@ -157,15 +170,16 @@ fn fresh_struct(
 fn fresh_members(
     alloc: Global,
     zeroed: bool,
-    above: &[CDeclaration],
+    declared: &Declared,
+    above: usize,
     members: &[CMember],
 ) -> Result<CellTree, AllocError>
-    ensures { IfOk result (λ tree. tree ≡ members_tree zeroed (struct_tree zeroed (reverse above.now)) members.now) }
+    ensures { IfOk result (λ tree. tree ≡ members_tree zeroed (struct_tree zeroed (reverse (take above declared.now.list.now))) members.now) }
 {
     let mut list = Items::new(alloc);
     let mut rest = members;
     while let [first, after @ ..] = rest {
-        list.push(fresh_member(alloc, zeroed, above, first)?)?;
+        list.push(fresh_member(alloc, zeroed, declared, above, first)?)?;
         rest = after;
     }
     Ok(CellTree::branch(list))
@@ -176,14 +190,15 @@ fn fresh_members(
 fn fresh_member(
     alloc: Global,
     zeroed: bool,
-    above: &[CDeclaration],
+    declared: &Declared,
+    above: usize,
     member: &CMember,
 ) -> Result<CellTree, AllocError>
-    ensures { IfOk result (λ tree. tree ≡ member_tree member.now.length (fresh zeroed above.now member.now.of)) }
+    ensures { IfOk result (λ tree. tree ≡ member_tree member.now.length (fresh zeroed (take above declared.now.list.now) member.now.of)) }
 {
     match member.length {
-        None => fresh(alloc, zeroed, above, &member.of),
-        Some(length) => fresh_elements(alloc, zeroed, above, &member.of, length),
+        None => fresh_among(alloc, zeroed, declared, above, &member.of),
+        Some(length) => fresh_elements(alloc, zeroed, declared, above, &member.of, length),
     }
 }
 
@@ -192,15 +207,16 @@ fn fresh_member(
 fn fresh_elements(
     alloc: Global,
     zeroed: bool,
-    above: &[CDeclaration],
+    declared: &Declared,
+    above: usize,
     of: &CType,
     length: u64,
 ) -> Result<CellTree, AllocError>
-    ensures { IfOk result (λ tree. tree ≡ copies length (fresh zeroed above.now of.now)) }
+    ensures { IfOk result (λ tree. tree ≡ copies length (fresh zeroed (take above declared.now.list.now) of.now)) }
 {
     let mut list = Items::new(alloc);
     for index in 0..length {
-        list.push(fresh(alloc, zeroed, above, of)?)?;
+        list.push(fresh_among(alloc, zeroed, declared, above, of)?)?;
     }
     Ok(CellTree::branch(list))
 }

@@ -7,6 +7,7 @@ pub mod fresh;
 pub mod halt;
 pub mod memory;
 pub mod slot;
+pub mod structs;
 pub mod tree;
 
 use tree_lists::Items;

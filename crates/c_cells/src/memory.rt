@@ -132,14 +132,20 @@ impl Memory {
         Ok(())
     }
 
-    /// Makes the blocks of another memory, in order.
-    pub fn append(&mut self, more: Memory) -> Result<(), AllocError>
-        ensures ok { OnOk result (self.new ≡ self.old ++ more) }
+    /// Makes the blocks of another memory, in order, which has none then.
+    pub fn append(&mut self, more: &mut Memory) -> Result<(), AllocError>
+        ensures ok { OnOk result ((self.new ≡ self.old ++ more.old) × (more.new ≡ [])) }
         ensures err { OnErr result (self.new ≡ self.old) }
     {
-        let Memory { mut slots } = more;
-        self.slots.append(&mut slots)?;
+        self.slots.append(&mut more.slots)?;
         Ok(())
+    }
+
+    /// Forgets all blocks. The room for their slots stays.
+    pub fn clear(&mut self)
+        ensures { self.new ≡ [] }
+    {
+        self.slots.clear();
     }
 
     /// Makes the block with a number be gone.
