@@ -16,11 +16,13 @@ use Rattle.c_meaning.specs.Evaluate.{View, Named, value, place, variable, name_v
 use Rattle.c_meaning.specs.States.{Names, global_from, number_of, numbered, store, store_named, view}
 use Rattle.c_meaning.specs.Steps.{names_from, taken, put_root, put_value, assign}
 use Rattle.c_cells.specs.Slots.{int_block, HoldsInt}
-use Rattle.c_evaluation.specs.Numbers.{place_number, NamesVariable, Evaluates, EvaluatesTwo, Puts, Chooses, NamesNone}
+use Rattle.c_evaluation.specs.Numbers.{place_number, NamesVariable, IsOperand, Resolves, Holds, Evaluates, EvaluatesPair, EvaluatesTwo, Puts, Chooses, NamesNone}
 use Rattle.c_evaluation.specs.Stores.{chosen, truth_in}
 use Rattle.c_evaluation.specs.Evaluations.{name_in}
 use Rattle.c_evaluation.specs.declared.numbers.Variable.{Variable}
 use Rattle.c_evaluation.specs.declared.numbers.Variable.TheVariants as v
+use Rattle.c_evaluation.specs.declared.numbers.Operand.{Operand}
+use Rattle.c_evaluation.specs.declared.numbers.Operand.TheVariants as o
 use Rattle.c_evaluation.specs.declared.numbers.Number.{Number}
 use Rattle.c_evaluation.specs.declared.numbers.Number.TheVariants as n
 use Rattle.c_evaluation.proofs.Names.{parameter, local, global}
@@ -40,7 +42,7 @@ module _ (c : CProgram) (x : Name) (ps ls : List CVariable) where
 pub no_variable : (c : CProgram) (x : Name) (ps ls : List CVariable) → global_from 0 x ps ≡ None → global_from 0 x ls ≡ None → global_from 0 x c.globals ≡ None → NamesNone c (ps ++ ls) x
 no_variable c x ps ls h l g = λ base. global c x base ps ls h l ∙ g
 
-pub variable_held : (blocks : Blocks) (base : ℕ) (variable : Variable) (z : ℤ) → block_at blocks (place_number base variable) ≡ Some (int_block (Int z)) → Evaluates blocks base (n.Variable variable) z
+pub variable_held : (blocks : Blocks) (base : ℕ) (variable : Variable) (z : ℤ) → block_at blocks (place_number base variable) ≡ Some (int_block (Int z)) → Holds blocks base (o.Variable variable) z
 unfolding view numbered name_value
 variable_held blocks base variable z held = λ c reach vars e r.
     let at = r.0 in
@@ -49,17 +51,37 @@ variable_held blocks base variable z held = λ c reach vars e r.
     let named : w.named x ≡ Some (int_block (Int z)) = ap (numbered blocks) (r.2.2 base) ∙ held in
     ap (value w) (r.1 ∙ ap t.Read r.2.1) ∙ read_name w (t.Variable x) x refl ∙ ap (name_value w x) named ∙ read_int w t.Int (int_block (Int z)).tree (Some z) refl refl
 
-pub number_written : (blocks : Blocks) (base : ℕ) (z : ℤ) → Evaluates blocks base (n.Written z) z
+pub number_written : (blocks : Blocks) (base : ℕ) (z : ℤ) → Holds blocks base (o.Written z) z
 unfolding value
 number_written blocks base z = λ c reach vars e r. ap (value (view c reach (names_from base vars) blocks)) r.1 ∙ ap (λ z. Got (int z)) r.2
 
-pub evaluated_variable : (blocks : Blocks) (base : ℕ) (number : Number) (variable : Variable) (o : Option ℤ) → number ≡ n.Variable variable
-    → IfSome o (λ z. block_at blocks (place_number base variable) ≡ Some (int_block (Int z))) → IfSome o (λ z. Evaluates blocks base number z)
-evaluated_variable blocks base number variable None is h = tt
-evaluated_variable blocks base number variable (Some z) is h = subst (λ m. Evaluates blocks base m z) (sym is) (variable_held blocks base variable z h)
+pub held_variable : (blocks : Blocks) (base : ℕ) (operand : Operand) (variable : Variable) (found : Option ℤ) → operand ≡ o.Variable variable
+    → IfSome found (λ z. block_at blocks (place_number base variable) ≡ Some (int_block (Int z))) → IfSome found (λ z. Holds blocks base operand z)
+held_variable blocks base operand variable None is h = tt
+held_variable blocks base operand variable (Some z) is h = subst (λ m. Holds blocks base m z) (sym is) (variable_held blocks base variable z h)
 
-pub evaluated_written : (blocks : Blocks) (base : ℕ) (number : Number) (z z' : ℤ) → number ≡ n.Written z → z ≡ z' → Evaluates blocks base number z'
-evaluated_written blocks base number z z' is same = subst (λ m. Evaluates blocks base m z') (sym is) (subst (λ y. Evaluates blocks base (n.Written z) y) same (number_written blocks base z))
+pub held_written : (blocks : Blocks) (base : ℕ) (operand : Operand) (z z' : ℤ) → operand ≡ o.Written z → z ≡ z' → Holds blocks base operand z'
+held_written blocks base operand z z' is same = subst (λ m. Holds blocks base m z') (sym is) (subst (λ y. Holds blocks base (o.Written z) y) same (number_written blocks base z))
+
+pub joined_pair : (blocks : Blocks) (base : ℕ) (op : CBinary) (a b : Operand) (x y : ℤ) (found : Option ℤ)
+    → Holds blocks base a x → Holds blocks base b y → ((ds : List CDeclaration) → IfSome found (λ z. joined ds op (int x) (Got (int y)) ≡ Got (int z))) → IfSome found (λ z. EvaluatesPair blocks base op a b z)
+joined_pair blocks base op a b x y None l r h = tt
+joined_pair blocks base op a b x y (Some z) l r h = (x, y, l, r, h)
+
+pub evaluated_operand : (blocks : Blocks) (base : ℕ) (number : Number) (operand : Operand) (found : Option ℤ) → number ≡ n.Operand operand → IfSome found (λ z. Holds blocks base operand z) → IfSome found (λ z. Evaluates blocks base number z)
+evaluated_operand blocks base number operand None is h = tt
+evaluated_operand blocks base number operand (Some z) is h = subst (λ m. Evaluates blocks base m z) (sym is) h
+
+pub evaluated_pair : (blocks : Blocks) (base : ℕ) (number : Number) (op : CBinary) (a b : Operand) (found : Option ℤ) → number ≡ n.Pair op a b → IfSome found (λ z. EvaluatesPair blocks base op a b z) → IfSome found (λ z. Evaluates blocks base number z)
+evaluated_pair blocks base number op a b None is h = tt
+evaluated_pair blocks base number op a b (Some z) is h = subst (λ m. Evaluates blocks base m z) (sym is) (λ c reach vars e d.
+    let w : View = view c reach (names_from base vars) blocks in
+    ap (value w) d.2 ∙ two_given w op d.0 d.1 h.0 h.1 (Some z) (h.2 c reach vars d.0 d.3) (h.3 c reach vars d.1 d.4) (h.4 w.declared))
+
+-- operands of an operator
+pub resolved_pair : (op : CBinary) (x y : Number) (a b : Operand) → x ≡ n.Operand a → y ≡ n.Operand b
+    → (c : CProgram) (vars : List CVariable) (e d : Expr) → Resolves c vars x e → Resolves c vars y d → Resolves c vars (n.Pair op a b) (t.Binary op e d)
+resolved_pair op x y a b is_x is_y c vars e d h k = (e, d, refl, subst (λ m. Resolves c vars m e) is_x h, subst (λ m. Resolves c vars m d) is_y k)
 
 pub evaluated_two : (blocks : Blocks) (base : ℕ) (number : Number) (op : CBinary) (a b : Box Number) (o : Option ℤ) → number ≡ n.Two op a b → IfSome o (λ z. EvaluatesTwo blocks base op a.value b.value z) → IfSome o (λ z. Evaluates blocks base number z)
 evaluated_two blocks base number op a b None is h = tt

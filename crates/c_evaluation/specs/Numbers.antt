@@ -16,6 +16,8 @@ use Rattle.c_evaluation.specs.Stores.{chosen}
 use Rattle.c_evaluation.specs.declared.function_names.Names.{Names}
 use Rattle.c_evaluation.specs.declared.numbers.Variable.{Variable}
 use Rattle.c_evaluation.specs.declared.numbers.Variable.TheVariants as v
+use Rattle.c_evaluation.specs.declared.numbers.Operand.{Operand}
+use Rattle.c_evaluation.specs.declared.numbers.Operand.TheVariants as o
 use Rattle.c_evaluation.specs.declared.numbers.Number.{Number}
 use Rattle.c_evaluation.specs.declared.numbers.Number.TheVariants as n
 
@@ -40,18 +42,32 @@ NamesNone c vars x = (base : ℕ) → number_of c (names_from base vars) x ≡ N
 abbrev pub IsVariable : CProgram → List CVariable → Variable → Place → Type 0
 IsVariable c vars variable at = (x : Name) × (at ≡ t.Variable x) × NamesVariable c vars variable x
 
+-- the operand is the expression
+abbrev pub IsOperand : CProgram → List CVariable → Operand → Expr → Type 0
+IsOperand c vars (o.Variable variable) e = (at : Place) × (e ≡ t.Read at) × IsVariable c vars variable at
+IsOperand c vars (o.Written z) e = (m : ℕ) × (e ≡ t.Number m) × (pos m ≡ z)
+
 -- the number is the expression, with variables in place of names
 abbrev pub Resolves : CProgram → List CVariable → Number → Expr → Type 0
-Resolves c vars (n.Variable variable) e = (at : Place) × (e ≡ t.Read at) × IsVariable c vars variable at
-Resolves c vars (n.Written z) e = (m : ℕ) × (e ≡ t.Number m) × (pos m ≡ z)
+Resolves c vars (n.Operand a) e = IsOperand c vars a e
+Resolves c vars (n.Pair op a b) e = (x : Expr) × (y : Expr) × (e ≡ t.Binary op x y) × IsOperand c vars a x × IsOperand c vars b y
 Resolves c vars (n.Two' op p a q b) e = (x : Expr) × (y : Expr) × (e ≡ t.Binary op x y) × Resolves c vars a x × Resolves c vars b y
+
+-- each expression that the operand is has this value in a function whose variables' blocks begin at base
+abbrev pub Holds : Blocks → ℕ → Operand → ℤ → Type 0
+Holds blocks base a z = (c : CProgram) (reach : ℕ) (vars : List CVariable) (e : Expr) → IsOperand c vars a e
+    → value (view c reach (names_from base vars) blocks) e ≡ Got (int z)
 
 -- each expression that the number is has this value in a function whose variables' blocks begin at base
 abbrev pub Evaluates : Blocks → ℕ → Number → ℤ → Type 0
 Evaluates blocks base number z = (c : CProgram) (reach : ℕ) (vars : List CVariable) (e : Expr) → Resolves c vars number e
     → value (view c reach (names_from base vars) blocks) e ≡ Got (int z)
 
--- the same of an operator between two
+-- the same of an operator between two operands
+abbrev pub EvaluatesPair : Blocks → ℕ → CBinary → (a b : Operand) → ℤ → Type 0
+EvaluatesPair blocks base op a b z = (x : ℤ) × (y : ℤ) × Holds blocks base a x × Holds blocks base b y × ((ds : List CDeclaration) → joined ds op (int x) (Got (int y)) ≡ Got (int z))
+
+-- and between two numbers
 abbrev pub EvaluatesTwo : Blocks → ℕ → CBinary → (a b : Number) → ℤ → Type 0
 EvaluatesTwo blocks base op a b z = (x : ℤ) × (y : ℤ) × Evaluates blocks base a x × Evaluates blocks base b y × ((ds : List CDeclaration) → joined ds op (int x) (Got (int y)) ≡ Got (int z))
 

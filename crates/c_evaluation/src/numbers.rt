@@ -2,7 +2,10 @@
 //! not found, the expression is evaluated step by step.
 ghost use Rattle.std.specs.Prelude.{◌≡◌, List, map, Some, true, false, pos, IfSome, IfOk};
 ghost use Rattle.c_tree.specs.Tree as t;
+ghost use Rattle.c_tree.specs.Tree.{Expr};
 ghost use Rattle.c_tree.specs.declared.program.CDeclaration.{CDeclaration};
+ghost use Rattle.c_tree.specs.declared.program.CVariable.{CVariable};
+ghost use Rattle.c_tree.specs.declared.program.CProgram.{CProgram};
 ghost use Rattle.c_meaning.specs.Answer.{Got};
 ghost use Rattle.c_meaning.specs.Cells as c;
 ghost use Rattle.c_meaning.specs.Cells.{block_at};
@@ -10,7 +13,8 @@ ghost use Rattle.c_meaning.specs.States.{global_from};
 ghost use Rattle.c_meaning.specs.Values as w;
 ghost use Rattle.name_tables.specs.Places.{first_from, function_name};
 ghost use Rattle.c_cells.specs.Slots.{int_block};
-ghost use Rattle.c_evaluation.specs.Numbers.{variables_of, place_number as number_placed, NamesVariable, IsVariable, Resolves, Evaluates, EvaluatesTwo, Puts, Chooses, NamesNone};
+ghost use Rattle.c_evaluation.specs.declared.numbers.Number.TheVariants as n;
+ghost use Rattle.c_evaluation.specs.Numbers.{variables_of, place_number as number_placed, NamesVariable, IsVariable, Resolves, Holds, Evaluates, EvaluatesPair, EvaluatesTwo, Puts, Chooses, NamesNone};
 
 use crate::evaluate::single_name;
 use crate::function_names::Names;
@@ -29,11 +33,18 @@ pub enum Variable {
     Global(usize),
 }
 
-/// An expression over numbers.
-#[derive(Drop)]
-pub enum Number {
+/// A variable, or a number in the text.
+#[derive(Clone, Copy, Debug)]
+pub enum Operand {
     Variable(Variable),
     Written(i64),
+}
+
+/// An expression over numbers. An operator between two operands needs no memory of its own.
+#[derive(Drop)]
+pub enum Number {
+    Operand(Operand),
+    Pair(CBinary, Operand, Operand),
     Two(CBinary, Box<Number>, Box<Number>),
 }
 
@@ -107,6 +118,39 @@ fn small_number(n: u64) -> Option<i64>
     }
 }
 
+/// The operand that a number is.
+fn operand_of(number: &Number) -> Option<Operand>
+    ensures { IfSome result (λ a. number.now ≡ n.Operand a) }
+{
+    match number {
+        Number::Operand(operand) => Some(*operand),
+        _ => None,
+    }
+}
+
+/// An operator between two operands.
+#[tactic(auto, using(crate::proofs::Resolving::resolved_pair))]
+fn pair_of(op: CBinary, x: &Number, y: &Number) -> Option<Number>
+    ensures { IfSome result (λ n. (c : CProgram) (vars : List CVariable) (a b : Expr) → Resolves c vars x.now a → Resolves c vars y.now b → Resolves c vars n (t.Binary op a b)) }
+{
+    match (operand_of(x), operand_of(y)) {
+        (Some(a), Some(b)) => Some(Number::Pair(op, a, b)),
+        _ => None,
+    }
+}
+
+/// An operator between two numbers.
+fn two_of(alloc: Global, op: CBinary, x: Number, y: Number) -> Result<Number, AllocError>
+    ensures { IfOk result (λ n. (c : CProgram) (vars : List CVariable) (a b : Expr) → Resolves c vars x a → Resolves c vars y b → Resolves c vars n (t.Binary op a b)) }
+{
+    if let Some(pair) = pair_of(op, &x, &y) {
+        return Ok(pair);
+    }
+    let left = Box::new(alloc, x)?;
+    let right = Box::new(alloc, y)?;
+    Ok(Number::Two(op, left, right))
+}
+
 /// The number for which an expression stands, where it has one.
 #[cycle(resolved)]
 pub fn resolved(alloc: Global, names: &Names, e: &CExpr) -> Result<Option<Number>, AllocError>
@@ -114,11 +158,11 @@ pub fn resolved(alloc: Global, names: &Names, e: &CExpr) -> Result<Option<Number
 {
     match &e.node {
         CExprNode::Read(place) => Ok(match variable_placed(names, place.get()) {
-            Some(variable) => Some(Number::Variable(variable)),
+            Some(variable) => Some(Number::Operand(Operand::Variable(variable))),
             None => None,
         }),
         CExprNode::Number(n) => Ok(match small_number(*n) {
-            Some(z) => Some(Number::Written(z)),
+            Some(z) => Some(Number::Operand(Operand::Written(z))),
             None => None,
         }),
         CExprNode::Binary(op, a, b) => resolved_two(alloc, names, *op, a.get(), b.get()),
@@ -137,11 +181,7 @@ fn resolved_two(
     ensures { IfOk result (λ o. IfSome o (λ n. Resolves names.now.program.now (variables_of names.now) n (t.Binary op a.now b.now))) }
 {
     match (resolved(alloc, names, a)?, resolved(alloc, names, b)?) {
-        (Some(x), Some(y)) => {
-            let left = Box::new(alloc, x)?;
-            let right = Box::new(alloc, y)?;
-            Ok(Some(Number::Two(op, left, right)))
-        }
+        (Some(x), Some(y)) => Ok(Some(two_of(alloc, op, x, y)?)),
         _ => Ok(None),
     }
 }
@@ -159,28 +199,56 @@ pub fn place_number(base: usize, variable: Variable) -> Option<usize>
 }
 
 /// The number that a variable holds.
+#[inline(always)]
 fn number_held(memory: &Memory, base: usize, variable: Variable) -> Option<i64>
     ensures { IfSome result (λ z. block_at memory.now (number_placed base variable) ≡ Some (int_block (c.Int z))) }
 {
-    match place_number(base, variable) {
-        Some(number) => memory.get_number(number),
-        None => None,
+    match variable {
+        Variable::Own(at) => match base.checked_add(at) {
+            Some(number) => memory.get_number(number),
+            None => None,
+        },
+        Variable::Global(at) => memory.get_number(at),
+    }
+}
+
+/// The number of an operand, where it is found so.
+#[inline(always)]
+fn held(memory: &Memory, base: usize, operand: Operand) -> Option<i64>
+    ensures { IfSome result (λ z. Holds memory.now base operand z) }
+{
+    match operand {
+        Operand::Variable(variable) => number_held(memory, base, variable),
+        Operand::Written(z) => Some(z),
+    }
+}
+
+/// The same of an operator between two.
+#[inline(always)]
+fn evaluated_pair(memory: &Memory, base: usize, op: CBinary, a: Operand, b: Operand) -> Option<i64>
+    ensures { IfSome result (λ z. EvaluatesPair memory.now base op a b z) }
+{
+    match (held(memory, base, a), held(memory, base, b)) {
+        (Some(x), Some(y)) => operation(op, x, y),
+        _ => None,
     }
 }
 
 /// The number of an expression, where it is found so.
 #[cycle(evaluated)]
+#[inline]
 pub fn evaluated(memory: &Memory, base: usize, number: &Number) -> Option<i64>
     ensures { IfSome result (λ z. Evaluates memory.now base number.now z) }
 {
     match number {
-        Number::Variable(variable) => number_held(memory, base, *variable),
-        Number::Written(z) => Some(*z),
+        Number::Operand(operand) => held(memory, base, *operand),
+        Number::Pair(op, a, b) => evaluated_pair(memory, base, *op, *a, *b),
         Number::Two(op, a, b) => evaluated_two(memory, base, *op, a, b),
     }
 }
 
 #[cycle(evaluated)]
+#[inline(never)]
 fn evaluated_two(memory: &Memory, base: usize, op: CBinary, a: &Number, b: &Number) -> Option<i64>
     ensures { IfSome result (λ z. EvaluatesTwo memory.now base op a.now b.now z) }
 {

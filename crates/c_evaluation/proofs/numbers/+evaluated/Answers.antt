@@ -3,16 +3,14 @@ use Rattle.std.proofs.lemmas.Int.{ints}
 use Rattle.std.specs.Prelude.{ℤ, IfSome}
 use Rattle.c_evaluation.specs.declared.numbers.Number.{Number}
 use Rattle.c_evaluation.specs.Numbers.{Evaluates, EvaluatesTwo}
-use Rattle.c_evaluation.proofs.Resolving.{evaluated_variable, evaluated_written, evaluated_two, joined_two}
+use Rattle.c_evaluation.proofs.Resolving.{evaluated_operand, evaluated_pair, evaluated_two, joined_two}
 use Rattle.c_evaluation.proofs.numbers.+evaluated.Goals as goal
 
-pub evaluated-returns-in-Variable : goal.evaluated-returns-in-Variable
-evaluated-returns-in-Variable t c = evaluated_variable c.args.memory.now c.args.base c.args.number.now c.in-Variable.variable c.number_held.result c.in-Variable.is c.number_held.ensures
+pub evaluated-returns-in-Operand : goal.evaluated-returns-in-Operand
+evaluated-returns-in-Operand t c = evaluated_operand c.args.memory.now c.args.base c.args.number.now c.in-Operand.operand c.held.result c.in-Operand.is c.held.ensures
 
-pub evaluated-returns-in-Written : goal.evaluated-returns-in-Written
-evaluated-returns-in-Written t c =
-    let same : c.in-Written.z ≡ to_z w64 (of_z w64 c.in-Written.z) = grind (arith, ints) in
-    evaluated_written c.args.memory.now c.args.base c.args.number.now c.in-Written.z _ c.in-Written.is same
+pub evaluated-returns-in-Pair : goal.evaluated-returns-in-Pair
+evaluated-returns-in-Pair t c = evaluated_pair c.args.memory.now c.args.base c.args.number.now c.in-Pair.op c.in-Pair.a c.in-Pair.b c.evaluated_pair.result c.in-Pair.is c.evaluated_pair.ensures
 
 pub evaluated-returns-in-Two : goal.evaluated-returns-in-Two
 evaluated-returns-in-Two t c =
