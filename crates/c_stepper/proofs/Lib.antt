@@ -15,3 +15,6 @@ pub mod Noting
 pub mod Coding
 pub mod Quickly
 pub mod QuickCalling
+pub mod QuickReturning
+pub mod Guiding
+pub mod Counting

@@ -11,7 +11,9 @@ use Rattle.p2c_outside.specs.Told.{Gains, IsEmpty}
 use Rattle.held_bytes.proofs.ToldLemmas.{Gains-refl, Gains-append, GainsPart-second}
 use Rattle.held_bytes.specs.Held.{bytes_in, first_of, rest_of}
 use Rattle.c_stepper.specs.Runners.{state_of, AsksForByte, Seeks, Acts}
-use Rattle.c_stepper.specs.Machines.{stood, Goes, Steps, AreFew, Takes}
+use Rattle.held_bytes.specs.declared.output.HeldOutput.{HeldOutput}
+use Rattle.c_stepper.specs.Machines.{stood, Dashes, Goes, Steps, AreFew, Takes}
+use Rattle.c_stepper.proofs.Counting.{none_more, step_once}
 use Rattle.c_stepper.specs.declared.runner.Runner.{Runner}
 use Rattle.c_stepper.specs.declared.machine.Machine.{Machine}
 use Rattle.c_stepper.specs.declared.machine.Stepped.{Stepped}
@@ -29,6 +31,19 @@ went c new left output calls w next h count = record {
   count = count;
   put = record { sent = []; put = Gains-refl w; is = append-nil new.output.bytes.items };
 }
+
+-- one step by numbers alone
+pub dashed : (c : CProgram) (old new : Machine) (left output calls : List ℕ) (w : Option (List ℕ)) → Dashes c old new 1 → length calls ≡ old.calls → Steps c old.output.bytes.items old.calls new (Some left) w w output calls s.Going (CStep c (stood c old left output calls))
+dashed c old new left output calls w d count =
+    subst (λ (o : HeldOutput). Goes c o.bytes.items new (Some left) w w output (CStep c (stood c old left output calls))) d.output
+    (went c new left output calls w (CStep c (stood c old left output calls)) (sym (d.runs left output calls) ∙ step_once c (stood c old left output calls)) (count ∙ sym d.calls))
+
+-- none
+pub no_dash : (c : CProgram) (old new : Machine) → Dashes c old new 0 → (input output calls : List ℕ) → state_of c new.runner input output calls ≡ state_of c old.runner input output calls
+no_dash c old new d input output calls =
+    let both : Onward (stood c old [] [] []) ≡ Onward (stood c new [] [] []) = sym (none_more c (Onward (stood c old [] [] []))) ∙ d.runs [] [] [] in
+    let same : stood c old [] [] [] ≡ stood c new [] [] [] = cc in
+    ap (λ (st : State). record st { input = input; output = output; calls = calls }) (sym same)
 
 -- ---- a byte that is held
 

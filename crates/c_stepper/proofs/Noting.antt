@@ -3,12 +3,13 @@ use Rattle.std.proofs.Common.{◌≡◌, ℕ, zero, suc, ◌+◌, List, [], ◌�
 use Rattle.std.proofs.lemmas.List.{append-nil}
 use Rattle.std.specs.Prelude.{slice_get}
 use Rattle.c_tree.specs.Tree as t
-use Rattle.c_tree.specs.Tree.{Statement, Body, list_of, body_of, statement_size, body_size}
+use Rattle.c_tree.specs.Tree.{Statement, Body, list_of, body_of, list_of-body_of, statement_size, body_size}
 use Rattle.c_tree.specs.declared.program.CVariable.{CVariable}
 use Rattle.c_tree.specs.declared.program.CProgram.{CProgram}
 use Rattle.c_tree.specs.declared.program.CFunction.{CFunction}
-use Rattle.c_stepper.specs.Codes.{Inner, Noted, IsNode, NotedList, Extends, IsCode, AreCodes}
+use Rattle.c_stepper.specs.Codes.{Inner, Noted, IsNode, NotedList, IsRow, Extends, IsCode, AreCodes}
 use Rattle.c_stepper.specs.declared.resolved.code.Code.{Code}
+use Rattle.c_stepper.specs.declared.resolved.code.Row.{Row}
 use Rattle.c_stepper.specs.declared.resolved.code.Node.{Node}
 
 pub get_more : (nodes more : List Node) (i : ℕ) (n : Node) → slice_get nodes i ≡ Some n → slice_get (nodes ++ more) i ≡ Some n
@@ -22,26 +23,26 @@ get_behind (m ∷ nodes) more i n h = let place : suc (length nodes) + i ≡ suc
 
 module _ (c : CProgram) (vars : List CVariable) where
   mutual
-    inner_more : (nodes more : List Node) (first second : ℕ) (s : Statement) → Inner c vars nodes first second s → Inner c vars (nodes ++ more) first second s
-    inner_more nodes more first second (t.If e a) h = noted_more nodes more first a h
-    inner_more nodes more first second (t.IfElse e a b) h = (noted_more nodes more first a h.0, noted_more nodes more second b h.1)
-    inner_more nodes more first second (t.While e a) h = noted_more nodes more first a h
-    inner_more nodes more first second (t.Assign at e) h = tt
-    inner_more nodes more first second (t.Call into who arguments) h = tt
-    inner_more nodes more first second (t.Malloc at of) h = tt
-    inner_more nodes more first second (t.Free e) h = tt
-    inner_more nodes more first second (t.GetChar at) h = tt
-    inner_more nodes more first second (t.PutChar e) h = tt
-    inner_more nodes more first second (t.Goto l) h = tt
-    inner_more nodes more first second (t.Label l) h = tt
-    inner_more nodes more first second (t.Return e) h = tt
+    inner_more : (nodes more : List Node) (first second : Row) (s : Statement) → Inner c vars nodes first second s → Inner c vars (nodes ++ more) first second s
+    inner_more nodes more first second (t.If e a) h = (noted_more nodes more first.start a h.0, h.1, h.2)
+    inner_more nodes more first second (t.IfElse e a b) h = (noted_more nodes more first.start a h.0, h.1, noted_more nodes more second.start b h.2, h.3)
+    inner_more nodes more first second (t.While e a) h = (noted_more nodes more first.start a h.0, h.1, h.2)
+    inner_more nodes more first second (t.Assign at e) h = h
+    inner_more nodes more first second (t.Call into who arguments) h = h
+    inner_more nodes more first second (t.Malloc at of) h = h
+    inner_more nodes more first second (t.Free e) h = h
+    inner_more nodes more first second (t.GetChar at) h = h
+    inner_more nodes more first second (t.PutChar e) h = h
+    inner_more nodes more first second (t.Goto l) h = h
+    inner_more nodes more first second (t.Label l) h = h
+    inner_more nodes more first second (t.Return e) h = h
 
     pub noted_more : (nodes more : List Node) (at : ℕ) (a : Body) → Noted c vars nodes at a → Noted c vars (nodes ++ more) at a
     noted_more nodes more at t.Empty h = tt
-    noted_more nodes more at (t.Then s rest) h = ((h.0.0, get_more nodes more at h.0.0 h.0.1, h.0.2, inner_more nodes more h.0.0.first h.0.0.second s h.0.3), noted_more nodes more (at + 1) rest h.1)
+    noted_more nodes more at (t.Then s rest) h = ((h.0.0, get_more nodes more at h.0.0 h.0.1, h.0.2, inner_more nodes more h.0.0.first h.0.0.second s h.0.3, h.0.4), noted_more nodes more (at + 1) rest h.1)
 
   pub node_more : (old new : List Node) (n : Node) (s : Statement) → Extends old new → IsNode c vars old n s → IsNode c vars new n s
-  node_more old new n s e h = subst (λ (all : List Node). IsNode c vars all n s) (sym e.1) (record { resolved = h.resolved; inner = inner_more old e.0 n.first n.second s h.inner })
+  node_more old new n s e h = subst (λ (all : List Node). IsNode c vars all n s) (sym e.1) (record { resolved = h.resolved; inner = inner_more old e.0 n.first n.second s h.inner; again = h.again })
 
   pub body_more : (old new : List Node) (at : ℕ) (a : Body) → Extends old new → Noted c vars old at a → Noted c vars new at a
   body_more old new at a e h = subst (λ (all : List Node). Noted c vars all at a) (sym e.1) (noted_more old e.0 at a h)
@@ -59,7 +60,7 @@ module _ (c : CProgram) (vars : List CVariable) where
   noted_body nodes at (s ∷ list) h =
       let n = h zero s refl in
       let place : at + zero ≡ at = omega arith in
-      ((n.0, ap (slice_get nodes) (sym place) ∙ n.1, n.2.resolved, n.2.inner), noted_body nodes (at + 1) list (next nodes at s list h))
+      ((n.0, ap (slice_get nodes) (sym place) ∙ n.1, n.2.resolved, n.2.inner, n.2.again), noted_body nodes (at + 1) list (next nodes at s list h))
 
   noted_first : (nodes : List Node) (at : ℕ) (first : Statement) (list : List Statement) → (n : Node) × (slice_get nodes at ≡ Some n) × IsNode c vars nodes n first → NotedList c vars nodes (at + 1) list → NotedList c vars nodes at (first ∷ list)
   noted_first nodes at first list n h zero s there =
@@ -73,7 +74,7 @@ module _ (c : CProgram) (vars : List CVariable) where
 
   pub noted_list : (nodes : List Node) (at : ℕ) (a : Body) → Noted c vars nodes at a → NotedList c vars nodes at (list_of a)
   noted_list nodes at t.Empty h = λ i s there. cc
-  noted_list nodes at (t.Then first rest) h = noted_first nodes at first (list_of rest) (h.0.0, h.0.1, record { resolved = h.0.2; inner = h.0.3 }) (noted_list nodes (at + 1) rest h.1)
+  noted_list nodes at (t.Then first rest) h = noted_first nodes at first (list_of rest) (h.0.0, h.0.1, record { resolved = h.0.2; inner = h.0.3; again = h.0.4 }) (noted_list nodes (at + 1) rest h.1)
 
   -- ---- a list that is being noted
 
@@ -150,6 +151,10 @@ module _ (c : CProgram) (vars : List CVariable) where
       let whole : h.0 ≡ all = sym (append-nil h.0) ∙ ap (λ l. h.0 ++ l) (sym (no_rest rest none)) ∙ h.1 in
       let e : Each c vars nodes own all = subst (Each c vars nodes own) whole h.2 in
       subst (λ (k : ℕ). NotedList c vars nodes' k all) (sym place) (subst (λ (l : List Node). NotedList c vars l (length nodes) all) (sym new) (each_noted c vars nodes own all e))
+
+-- the row of the statements between braces
+pub row_of : (c : CProgram) (vars : List CVariable) (nodes : List Node) (row : Row) (list : List Statement) → IsRow c vars nodes row list → Noted c vars nodes row.start (body_of list) × (length (list_of (body_of list)) ≡ row.count)
+row_of c vars nodes row list h = (noted_body c vars nodes row.start list h.0, ap length (list_of-body_of list) ∙ h.1)
 
 within : (s : Statement) (after done : List Statement) → 3 * statement_size s + 2 < 3 * body_size (body_of (done ++ s ∷ after))
 within s after [] = omega arith

@@ -1,29 +1,26 @@
--- What quick calls and answers do.
+-- What quick calls do.
 use Rattle.std.proofs.Common.{◌≡◌, ℕ, ◌+◌, ◌<◌, List, [], ◌∷◌, ◌++◌, length, map, Option, Some, None, false, Result, Ok, Err, refl, sym, ap, subst, ◌∙◌, append_assoc, arith}
 use Rattle.std.proofs.lemmas.List.{append-nil}
 use Rattle.std.proofs.lemmas.Option.{slice_get_within}
-use Rattle.std.specs.Prelude.{ℤ, slice_get, IfSome, IfOk}
+use Rattle.std.specs.Prelude.{ℤ, IfSome, IfOk}
 use Rattle.c_tree.specs.Tree as t
 use Rattle.c_tree.specs.Tree.{ObjectType, Expr, Place, Statement}
-use Rattle.c_tree.specs.declared.statement.CCallee.{CCallee}
-use Rattle.c_tree.specs.declared.statement.CCallee.TheVariants as callee
 use Rattle.c_tree.specs.declared.program.CVariable.{CVariable}
 use Rattle.c_tree.specs.declared.program.CDeclaration.{CDeclaration}
-use Rattle.c_tree.specs.declared.program.CFunction.{CFunction}
 use Rattle.c_tree.specs.declared.program.CProgram.{CProgram}
 use Rattle.c_meaning.specs.declared.StuckKind.TheVariants as k
-use Rattle.c_meaning.specs.Cells.{Int, Leaf, Block, Blocks, block_at, joined_option}
-use Rattle.c_meaning.specs.Answer.{Answer, Got, ◌>>=◌, or_bad, when}
-use Rattle.c_meaning.specs.Types.{Plain, Of, alike, type_eq}
-use Rattle.c_meaning.specs.Values.{Value, int, converted, value_of}
-use Rattle.c_meaning.specs.Evaluate.{View, value, values, place, variable, root_number}
+use Rattle.c_meaning.specs.Cells.{Int, Block, Blocks, block_at, joined_option}
+use Rattle.c_meaning.specs.Answer.{Got, ◌>>=◌, or_bad, when}
+use Rattle.c_meaning.specs.Types.{Plain, alike, type_eq}
+use Rattle.c_meaning.specs.Values.{int, converted}
+use Rattle.c_meaning.specs.Evaluate.{View, values, place, variable, root_number}
 use Rattle.c_meaning.specs.States as m
 use Rattle.c_meaning.specs.States.{number_of, numbered, view}
-use Rattle.c_meaning.specs.Steps.{names_from, parameter_blocks, target_of, result_of, returned}
+use Rattle.c_meaning.specs.Steps.{names_from, parameter_blocks, target_of}
 use Rattle.c_cells.specs.Slots.{int_block, HoldsInt}
 use Rattle.c_evaluation.specs.declared.numbers.Variable.{Variable}
 use Rattle.c_evaluation.specs.declared.numbers.Number.{Number}
-use Rattle.c_evaluation.specs.Numbers.{place_number, Resolves, Evaluates}
+use Rattle.c_evaluation.specs.Numbers.{place_number, Evaluates}
 use Rattle.c_stepper.specs.declared.resolved.code.Node.{Node}
 use Rattle.c_stepper.specs.declared.resolved.code.Resolved.{Resolved}
 use Rattle.c_stepper.specs.declared.resolved.code.Resolved.TheVariants as r
@@ -34,11 +31,19 @@ use Rattle.c_stepper.specs.declared.guide.Guide.{Guide}
 use Rattle.c_stepper.specs.declared.runner.Frame.{Frame}
 use Rattle.c_stepper.specs.Runners as runners
 use Rattle.c_stepper.specs.Runners.{parts_of, parts_at, variables_at, statement_at}
-use Rattle.c_stepper.specs.Calls.{IsEntry, callee_function, entered_of, entered_with, entered}
-use Rattle.c_stepper.specs.declared.leave.Given.{Given}
-use Rattle.c_stepper.specs.Leaving.{given_of}
-use Rattle.c_stepper.specs.Quick.{IsHere}
-use Rattle.c_stepper.specs.QuickCalls.{IsTargetOf, HoldAll, Entering, QuickEntry, GivesNumber, Gives, QuickGiven}
+use Rattle.c_stepper.specs.Calls.{IsEntry, callee_function, entered_with, entered}
+use Rattle.c_meaning.specs.States.{State}
+use Rattle.c_meaning.specs.Steps.{Onward, CStep}
+use Rattle.c_cells.specs.declared.halt.Halt.{Halt}
+use Rattle.c_stepper.specs.declared.runner.Runner.{Runner}
+use Rattle.c_stepper.specs.declared.runner.Done.{Done}
+use Rattle.c_stepper.specs.Spots.{todo_at}
+use Rattle.c_stepper.specs.Runners.{body_at, state_of, runner_view, FitsFrames, Acts}
+use Rattle.c_stepper.specs.Calls.{entered_state, entered_of}
+use Rattle.c_stepper.proofs.Entering.{calls_enter}
+use Rattle.c_stepper.proofs.Stepping.{acted}
+use Rattle.c_stepper.specs.Quick.{IsHere, ReadsNot}
+use Rattle.c_stepper.specs.QuickCalls.{IsTargetOf, HoldAll, Entering, QuickEntry}
 use Rattle.c_stepper.proofs.Calling.{direct}
 
 -- ---- the place for an answer
@@ -121,19 +126,13 @@ module _ (c : CProgram) (reach : ℕ) (vars : List CVariable) (blocks : Blocks) 
       }
 
 pub enters : (guide : Guide) (f : Frame) (blocks : Blocks) (node : Node) (call : ResolvedCall) (e : Entry) → IsHere guide f node → node.resolved ≡ r.Call call → Entering f blocks call e → QuickEntry guide f blocks e
-enters guide f blocks node call e here is parts = λ c into who es g next.
+enters guide f blocks node call e here is parts = λ c g.
     let vars = variables_at c f in
-    let v : View = view c f.reach (names_from f.base vars) blocks in
-    let s = t.Call into who es in
-    let i = subst (λ (q : Resolved). IsResolved c vars q s) is (here c s g next) in
-    let into_is : i.into ≡ into = let e : t.Call i.into i.who i.arguments ≡ t.Call into who es = sym i.is in cc in
-    let who_is : i.who ≡ who = let e : t.Call i.into i.who i.arguments ≡ t.Call into who es = sym i.is in cc in
-    let es_is : i.arguments ≡ es = let e : t.Call i.into i.who i.arguments ≡ t.Call into who es = sym i.is in cc in
-    let done = with_entry c f.reach vars blocks f.base call s i (runners.target_of e.target) e.parameters parts.reached parts.target parts.parameters in
-    let function = ap (λ n. Got (n, runners.target_of e.target, e.parameters)) parts.function in (
-      is_entry c f.reach vars blocks f.base call s i e parts.function parts.parameters,
-      function ∙ done ∙ ap (λ o. entered c v o i.who i.arguments) into_is ∙ ap (λ w. entered c v into w i.arguments) who_is ∙ ap (entered c v into who) es_is,
-    )
+    let n = here c g in
+    let i = subst (λ (q : Resolved). IsResolved c vars q n.0) is n.2 in
+    let done = with_entry c f.reach vars blocks f.base call n.0 i (runners.target_of e.target) e.parameters parts.reached parts.target parts.parameters in
+    let function = ap (λ n. Got (n, runners.target_of e.target, e.parameters)) parts.function in
+    (i.into, i.who, i.arguments, n.1 ∙ ap Some i.is, is_entry c f.reach vars blocks f.base call n.0 i e parts.function parts.parameters, function ∙ done)
 
 -- ---- the numbers of arguments, one after another
 
@@ -158,28 +157,6 @@ module _ (blocks : Blocks) (base : ℕ) where
       let whole : h.0 ≡ all = sym (append-nil h.0) ∙ ap (λ l. h.0 ++ l) (sym (no_rest rest none)) ∙ h.1 in
       subst (λ (l : List Number). HoldAll blocks base l made) whole h.2
 
--- ---- answers
-
-pub gives_number : (guide : Guide) (f : Frame) (blocks : Blocks) (node : Node) (number : Number) (o : Option ℤ) → IsHere guide f node → node.resolved ≡ r.Give number → IfSome o (λ z. Evaluates blocks f.base number z) → IfSome o (λ z. GivesNumber guide f blocks z)
-gives_number guide f blocks node number None here is found = tt
-gives_number guide f blocks node number (Some z) here is found = λ c e g next.
-    let vars = variables_at c f in
-    let form = subst (λ (q : Resolved). IsResolved c vars q (t.Return e)) is (here c (t.Return e) g next) in
-    let there : e ≡ Some form.0 = let h : t.Return e ≡ t.Return (Some form.0) = form.1 in cc in
-    (form.0, there, found c f.reach vars form.0 form.2)
-
-pub gives : (of : Option ObjectType) (own : ObjectType) (z : ℤ) → of ≡ Some own → own ≡ t.Int → Gives of z (value_of own (Leaf (Int z)))
-unfolding result_of converted alike type_eq when int ◌>>=◌
-gives of own z is int_ = λ ds.
-    ap (λ o. result_of ds o (int z)) (is ∙ ap Some int_) ∙ ap (λ (q : ObjectType). Got (value_of q (Leaf (Int z)))) (sym int_)
-
-pub given : (guide : Guide) (f : Frame) (blocks : Blocks) (of : Option ObjectType) (z : ℤ) (x : Value) → GivesNumber guide f blocks z → Gives of z x → QuickGiven guide f blocks of x
-unfolding returned ◌>>=◌
-given guide f blocks of z x number gives = λ c e g next.
-    let v : View = view c f.reach (names_from f.base (variables_at c f)) blocks in
-    let n = number c e g next in
-    sym (ap (returned v of) n.1 ∙ ap (λ a. a >>= (λ x. result_of v.declared of x >>= (λ y. Got (Some y)))) n.2 ∙ ap (λ a. a >>= (λ y. Got (Some y))) (gives v.declared))
-
 -- ---- the same where something is found
 
 pub variable_target : (blocks : Blocks) (base number : ℕ) (variable : Variable) (target : m.Target) → number ≡ place_number base variable → HoldsInt blocks number → target ≡ m.Into number [] (Plain t.Int) → IsTargetOf blocks base (Some variable) target
@@ -191,6 +168,22 @@ entries (Ok (Some e)) guide f blocks node call here is h = enters guide f blocks
 entries (Ok None) guide f blocks node call here is h = tt
 entries (Err e) guide f blocks node call here is h = tt
 
-pub givens : (result : Option Given) (guide : Guide) (f : Frame) (blocks : Blocks) (of : Option ObjectType) (z : ℤ) → GivesNumber guide f blocks z → IfSome result (λ g. Gives of z (given_of g)) → IfSome result (λ g. QuickGiven guide f blocks of (given_of g))
-givens None guide f blocks of z number h = tt
-givens (Some g) guide f blocks of z number h = given guide f blocks of z (given_of g) number h
+pub in_each : {X P : Type 0} (result : Result (Option Entry) X) → P → IfOk result (λ o. IfSome o (λ _. P))
+in_each (Ok (Some e)) h = h
+in_each (Ok None) h = tt
+in_each (Err e) h = tt
+
+-- ---- a call
+
+pub called : (c : CProgram) (old new : Runner) (e : Entry) (result : Result Done Halt) (input output calls : List ℕ) → FitsFrames c old → QuickEntry old.guide old.frame old.memory e
+    → Acts c new input output calls result (Onward (entered_state c (state_of c old input output calls) (todo_at (body_at c old.frame) old.frame.spot.outer.items (old.frame.spot.at + 1)) (entered_of e)))
+    → Acts c new input output calls result (CStep c (state_of c old input output calls))
+called c old new e result input output calls fits q h =
+    let p = q c fits.guide in
+    let st : State = state_of c old input output calls in
+    let rest = todo_at (body_at c old.frame) old.frame.spot.outer.items (old.frame.spot.at + 1) in
+    let does = calls_enter c (runner_view c old) st rest p.0 p.1 p.2 (entered_of e) (sym p.5) in
+    subst (Acts c new input output calls result) (sym does ∙ acted c old input output calls (t.Call p.0 p.1 p.2) p.3) h
+
+pub call_reads_not : (guide : Guide) (f : Frame) (blocks : Blocks) (e : Entry) → QuickEntry guide f blocks e → ReadsNot guide f
+call_reads_not guide f blocks e q = λ c g. let p = q c g in (t.Call p.0 p.1 p.2, p.3, refl)

@@ -10,7 +10,7 @@ use Rattle.c_evaluation.specs.declared.numbers.Variable.{Variable}
 use Rattle.c_evaluation.specs.declared.numbers.Number.{Number}
 use Rattle.c_stepper.specs.declared.resolved.code.Resolved.{Resolved}
 use Rattle.c_stepper.specs.declared.resolved.code.Resolved.TheVariants as r
-use Rattle.c_stepper.specs.Codes.{test_of, IsResolved, IsTest, IsChoice, ResolveAll, AreInts}
+use Rattle.c_stepper.specs.Codes.{test_of, IsResolved, IsTest, IsChoice, ResolveAll}
 
 module _ (c : CProgram) (vars : List CVariable) where
   pub is_store : (variable : Variable) (number : Number) (at : Place) (e : Expr) → IsVariable c vars variable at → Resolves c vars number e → IsResolved c vars (r.Store variable number) (t.Assign at e)
@@ -61,13 +61,3 @@ module _ (c : CProgram) (vars : List CVariable) where
   all_arguments all rest numbers h none =
       let whole : h.0 ≡ all = sym (append-nil h.0) ∙ ap (λ l. h.0 ++ l) (sym (no_rest rest none)) ∙ h.1 in
       subst (ResolveAll c vars numbers) whole h.2
-
-no_variables : (rest : List CVariable) → length rest ≡ 0 → AreInts rest
-no_variables [] h = tt
-no_variables (x ∷ rest) h = absurd (omega (arith, h))
-
-pub next_int : (all rest after : List CVariable) (x : CVariable) → (AreInts rest → AreInts all) → rest ≡ x ∷ after → x.of ≡ t.Int → AreInts after → AreInts all
-next_int all rest after x h split int more = h (subst AreInts (sym split) (int, more))
-
-pub all_ints : (all rest : List CVariable) → (AreInts rest → AreInts all) → length rest ≡ 0 → AreInts all
-all_ints all rest h none = h (no_variables rest none)

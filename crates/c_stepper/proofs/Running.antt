@@ -8,14 +8,16 @@ use Rattle.c_meaning.specs.Steps.{Next, Onward, Ended, Halted, CStep}
 use Rattle.c_meaning.specs.Runs as m
 use Rattle.c_meaning.specs.Runs.{start, run_from, answer_of, CRun}
 use Rattle.c_meaning.proofs.Later.{run_on, final_stays}
+use Rattle.c_stepper.proofs.Counting.{none_more, one_more}
 use Rattle.p2c_outside.specs.Counts.{Rose}
 use Rattle.p2c_outside.specs.Told as o
 use Rattle.p2c_outside.specs.Told.{Gains, IsEmpty}
 use Rattle.held_bytes.specs.Written.{GainsPart}
 use Rattle.held_bytes.proofs.ToldLemmas.{Gains-refl, Gains-append, GainsPart-second}
+use Rattle.held_bytes.specs.declared.output.HeldOutput.{HeldOutput}
 use Rattle.held_bytes.specs.Held.{bytes_in}
 use Rattle.c_stepper.specs.Runners.{AsksForByte}
-use Rattle.c_stepper.specs.Machines.{stood, Begins, Goes, Steps, Takes, output_at, Reaches, told, CutShort, IsAfter, MeetsNoEnd, WantsInput, TakesFew, Ran, TakeFaults, PutFaults, RunFaults, ended_by}
+use Rattle.c_stepper.specs.Machines.{stood, Begins, Dashes, Goes, Steps, Takes, output_at, Reaches, told, CutShort, IsAfter, MeetsNoEnd, WantsInput, TakesFew, Ran, TakeFaults, PutFaults, RunFaults, ended_by}
 use Rattle.c_stepper.specs.declared.machine.Machine.{Machine}
 use Rattle.c_stepper.specs.declared.machine.Stepped.{Stepped}
 use Rattle.c_stepper.specs.declared.machine.Stepped.TheVariants as s
@@ -39,18 +41,43 @@ pub record Along (c : CProgram) (bytes : List ℕ) (m : Machine) (left' w w' : O
   pub stands : (rest : List ℕ) → (m.input.over ≡ true → rest ≡ []) → Stands c (taken ++ rest) m rest w w'
   pub served : m.input.over ≡ false → (rest : List ℕ) → MeetsNoEnd c (taken ++ rest) m.taken
 
-none_more : (c : CProgram) (a : Next) → run_from c 0 a ≡ a
-unfolding run_from
-none_more c (Onward st) = refl
-none_more c (Ended status output calls) = refl
-none_more c (Halted kind output) = refl
+split_at : (n j : ℕ) → (j < n) ⊎ ((i : ℕ) × (j ≡ n + i))
+split_at zero j = inr (j, omega arith)
+split_at (suc n) zero = inl (omega arith)
+split_at (suc n) (suc j) = elim (split_at n j) [ inl l ↦ inl (omega (arith, l)) | inr e ↦ inr (e.0, omega (arith, e.1)) ]
 
-step_once : (c : CProgram) (st : State) → run_from c 1 (Onward st) ≡ CStep c st
-unfolding run_from
-step_once c st = none_more c (CStep c st)
-
-one_more : (c : CProgram) (n : ℕ) (a : Next) (st : State) → run_from c n a ≡ Onward st → run_from c (n + 1) a ≡ CStep c st
-one_more c n a st h = run_on c n 1 a ∙ ap (run_from c 1) h ∙ step_once c st
+-- a machine that has taken some steps by numbers alone
+pub dashed_along : (c : CProgram) (bytes : List ℕ) (old new : Machine) (n : ℕ) (left' w w' : Option (List ℕ)) → Along c bytes old left' w w' → Dashes c old new n → Along c bytes new left' w w'
+dashed_along c bytes old new n left' w w' h d = record {
+  taken = h.taken;
+  loses = h.loses;
+  stands = λ rest over. stood_at rest (h.stands rest (λ t. over (ap (λ i. i.over) d.input ∙ t)));
+  served = λ over rest j st low is asks.
+      let was : old.input.over ≡ false = ap (λ i. i.over) (sym d.input) ∙ over in
+      elim (split_at old.taken j) [
+        | inl before ↦ h.served was rest j st before is asks
+        | inr later ↦
+            let s = h.stands rest (λ t. absurd (let k : ◌≡◌ {A = Bool} true false = sym t ∙ was in cc)) in
+            let from = Onward (start c (h.taken ++ rest)) in
+            let there : run_from c later.0 (Onward (stood c old rest s.output s.calls)) ≡ Onward st =
+            ap (run_from c later.0) (sym s.run) ∙ sym (run_on c old.taken later.0 from) ∙ ap (λ k. run_from c k from) (sym later.1) ∙ is in
+            let few : later.0 < n = omega (arith, low, later.1, d.taken) in
+            absurd (d.reads_not rest s.output s.calls later.0 st few there asks)
+      ];
+}
+  where
+    stood_at : (rest : List ℕ) → Stands c (h.taken ++ rest) old rest w w' → Stands c (h.taken ++ rest) new rest w w'
+    stood_at rest s = record {
+      output = s.output;
+      calls = s.calls;
+      sent = s.sent;
+      run =
+          let from = Onward (start c (h.taken ++ rest)) in
+          ap (λ k. run_from c k from) d.taken ∙ run_on c old.taken n from ∙ ap (run_from c n) s.run ∙ d.runs rest s.output s.calls;
+      count = s.count ∙ sym d.calls;
+      put = s.put;
+      is = s.is ∙ ap (λ (o : HeldOutput). s.sent ++ o.bytes.items) (sym d.output);
+    }
 
 told_at : (a : Next) → told (answer_of a) ≡ output_at a
 unfolding answer_of

@@ -12,6 +12,8 @@ use Rattle.c_cells.specs.declared.halt.Halt.{Halt}
 use Rattle.c_cells.specs.declared.halt.Halt.TheVariants.{Stuck, Memory}
 use Rattle.c_evaluation.specs.Stores.{Finds, byte_stored}
 use Rattle.held_bytes.specs.Held.{first_of}
+use Rattle.c_stepper.specs.Guides.{IsGuide}
+use Rattle.c_stepper.specs.Quick.{ReadsNot}
 use Rattle.c_stepper.specs.Spots.{todo_at}
 use Rattle.c_stepper.specs.Runners.{state_of, runner_view, body_at, statement_at, is_reading, reads_in, reads_here, IsSettled, AsksForByte, Seeks}
 use Rattle.c_stepper.specs.declared.runner.Runner.{Runner}
@@ -63,3 +65,10 @@ not_asked_at c it input output calls (Some s) here h settled asks =
 
 pub not_asked : (c : CProgram) (it : Runner) (input output calls : List ℕ) → reads_here c it.frame ≡ false → IsSettled c it.frame → AsksForByte c (state_of c it input output calls) → ⊥
 not_asked c it input output calls h settled asks = not_asked_at c it input output calls (statement_at c it.frame) refl h settled asks
+
+-- nor where another statement is known to come next
+pub reads_no_byte : (c : CProgram) (it : Runner) (input output calls : List ℕ) → IsGuide c it.guide → ReadsNot it.guide it.frame → AsksForByte c (state_of c it input output calls) → ⊥
+reads_no_byte c it input output calls guide h asks =
+    let s = h c guide in
+    let some = todo_next (body_at c it.frame) it.frame.spot.outer.items it.frame.spot.at s.0 s.1 in
+    not_first s.0 asks.at (todo_at (body_at c it.frame) it.frame.spot.outer.items (it.frame.spot.at + 1)) asks.rest s.2 (sym some ∙ asks.next)

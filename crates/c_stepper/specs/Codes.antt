@@ -1,7 +1,7 @@
 -- The code of a program.
-use Rattle.std.specs.Prelude.{◌≡◌, ℕ, ◌+◌, List, [], ◌∷◌, ◌++◌, map, length, Option, Some, None, slice_get}
+use Rattle.std.specs.Prelude.{◌≡◌, ℕ, ◌+◌, Bool, true, false, List, [], ◌∷◌, ◌++◌, map, length, Option, Some, None, slice_get}
 use Rattle.c_tree.specs.Tree as t
-use Rattle.c_tree.specs.Tree.{Expr, Place, Statement, Body}
+use Rattle.c_tree.specs.Tree.{Expr, Place, Statement, Body, list_of}
 use Rattle.c_tree.specs.declared.program.CVariable.{CVariable}
 use Rattle.c_tree.specs.declared.program.CFunction.{CFunction}
 use Rattle.c_tree.specs.declared.program.CProgram.{CProgram}
@@ -15,6 +15,7 @@ use Rattle.c_evaluation.specs.Numbers.{NamesNone, IsVariable, Resolves}
 use Rattle.c_stepper.specs.declared.resolved.code.ResolvedCall.{ResolvedCall}
 use Rattle.c_stepper.specs.declared.resolved.code.Resolved.{Resolved}
 use Rattle.c_stepper.specs.declared.resolved.code.Resolved.TheVariants as r
+use Rattle.c_stepper.specs.declared.resolved.code.Row.{Row}
 use Rattle.c_stepper.specs.declared.resolved.code.Node.{Node}
 use Rattle.c_stepper.specs.declared.resolved.code.Code.{Code}
 use Rattle.c_stepper.specs.declared.resolved.note.ProgramCode.{ProgramCode}
@@ -29,6 +30,10 @@ test_of _ = None
 abbrev pub choice_of : Statement → Option Expr
 choice_of (t.IfElse e a b) = Some e
 choice_of _ = None
+
+abbrev pub is_loop : Statement → Bool
+is_loop (t.While e a) = true
+is_loop _ = false
 
 -- the variables are of `int64_t`
 abbrev pub AreInts : List CVariable → Type 0
@@ -94,29 +99,34 @@ module _ (c : CProgram) (vars : List CVariable) where
   -- ---- lists
 
   abbrev mutual
-    -- the nodes of the branches begin at these places
-    pub Inner : List Node → (first second : ℕ) → Statement → Type 0
-    Inner nodes first second (t.If e a) = Noted nodes first a
-    Inner nodes first second (t.IfElse e a b) = Noted nodes first a × Noted nodes second b
-    Inner nodes first second (t.While e a) = Noted nodes first a
-    Inner nodes first second _ = Unit {0}
+    -- the nodes of the branches stand in these rows
+    pub Inner : List Node → (first second : Row) → Statement → Type 0
+    Inner nodes first second (t.If e a) = Noted nodes first.start a × (length (list_of a) ≡ first.count) × (second.count ≡ 0)
+    Inner nodes first second (t.IfElse e a b) = Noted nodes first.start a × (length (list_of a) ≡ first.count) × Noted nodes second.start b × (length (list_of b) ≡ second.count)
+    Inner nodes first second (t.While e a) = Noted nodes first.start a × (length (list_of a) ≡ first.count) × (second.count ≡ 0)
+    Inner nodes first second _ = (first.count ≡ 0) × (second.count ≡ 0)
 
     -- those of the statements between braces stand side by side, and begin here
     pub Noted : List Node → ℕ → Body → Type 0
     Noted nodes at t.Empty = Unit {0}
-    Noted nodes at (t.Then s rest) = ((node : Node) × (slice_get nodes at ≡ Some node) × IsResolved node.resolved s × Inner nodes node.first node.second s) × Noted nodes (at + 1) rest
+    Noted nodes at (t.Then s rest) = ((node : Node) × (slice_get nodes at ≡ Some node) × IsResolved node.resolved s × Inner nodes node.first node.second s × (node.again ≡ is_loop s)) × Noted nodes (at + 1) rest
 
   -- the node of a statement
   pub record IsNode (nodes : List Node) (node : Node) (s : Statement) : Type 0 where
     pub resolved : IsResolved node.resolved s
     pub inner : Inner nodes node.first node.second s
+    pub again : node.again ≡ is_loop s
 
   -- the nodes of a list of statements begin here
   abbrev pub NotedList : List Node → ℕ → List Statement → Type 0
   NotedList nodes at list = (i : ℕ) (s : Statement) → slice_get list i ≡ Some s → (node : Node) × (slice_get nodes (at + i) ≡ Some node) × IsNode nodes node s
 
+  -- and the row has one for each
+  abbrev pub IsRow : List Node → Row → List Statement → Type 0
+  IsRow nodes row list = NotedList nodes row.start list × (length list ≡ row.count)
+
   abbrev pub IsCode : Code → List Statement → Type 0
-  IsCode code body = NotedList code.nodes.items code.start body
+  IsCode code body = IsRow code.nodes.items code.row body
 
 -- there are further nodes behind the old ones
 abbrev pub Extends : (old new : List Node) → Type 0

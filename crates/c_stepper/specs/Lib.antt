@@ -8,3 +8,4 @@ pub mod Machines
 pub mod Codes
 pub mod Quick
 pub mod QuickCalls
+pub mod QuickReturns

@@ -1,5 +1,5 @@
 -- The states for which a machine stands, and what its steps and runs tell.
-use Rattle.std.specs.Prelude.{◌≡◌, ◌≢◌, ◌⊎◌, ℕ, ◌≤◌, ◌<◌, true, false, List, [], ◌++◌, length, Option, Some, None}
+use Rattle.std.specs.Prelude.{◌≡◌, ◌≢◌, ◌⊎◌, ℕ, ◌+◌, ◌≤◌, ◌<◌, true, false, List, [], ◌++◌, length, Option, Some, None}
 use Rattle.c_tree.specs.declared.program.CProgram.{CProgram}
 use Rattle.c_meaning.specs.States.{State}
 use Rattle.c_meaning.specs.Steps.{Next, Onward, Ended, Halted, CStep}
@@ -38,6 +38,25 @@ pub record Begins (c : CProgram) (m : Machine) : Type 0 where
   pub input : m.input.over ≡ false
 
 -- ---- steps
+
+-- both stand for the same states
+pub record StandsAs (c : CProgram) (old new : Machine) : Type 0 where
+  pub state : (input output calls : List ℕ) → state_of c new.runner input output calls ≡ state_of c old.runner input output calls
+  pub input : new.input ≡ old.input
+  pub output : new.output ≡ old.output
+  pub calls : new.calls ≡ old.calls
+  pub taken : new.taken ≡ old.taken
+  pub over : new.over ≡ old.over
+
+-- so many steps lead from one machine to the other: none asks for a byte, and nothing is written
+pub record Dashes (c : CProgram) (old new : Machine) (n : ℕ) : Type 0 where
+  pub runs : (left output calls : List ℕ) → run_from c n (Onward (stood c old left output calls)) ≡ Onward (stood c new left output calls)
+  pub reads_not : (left output calls : List ℕ) (j : ℕ) (st : State) → j < n → run_from c j (Onward (stood c old left output calls)) ≡ Onward st → AsksForByte c st → ⊥
+  pub taken : new.taken ≡ old.taken + n
+  pub input : new.input ≡ old.input
+  pub output : new.output ≡ old.output
+  pub calls : new.calls ≡ old.calls
+  pub over : new.over ≡ old.over
 
 -- the machine goes on in the next state, having put and held what the step writes
 pub record Goes (c : CProgram) (held : List ℕ) (new : Machine) (left' written written' : Option (List ℕ)) (output : List ℕ) (next : Next) : Type 0 where

@@ -1,18 +1,15 @@
--- Calls and answers that reckon with numbers alone.
-use Rattle.std.specs.Prelude.{◌≡◌, ℕ, ℤ, ◌<◌, List, [], ◌∷◌, Option, Some, None}
+-- Calls that reckon with numbers alone.
+use Rattle.std.specs.Prelude.{◌≡◌, ℕ, ℤ, ◌<◌, List, [], ◌∷◌, Option, Some, None, Result, Ok, Err}
 use Rattle.c_tree.specs.Tree as t
-use Rattle.c_tree.specs.Tree.{ObjectType, Expr, Place}
+use Rattle.c_tree.specs.Tree.{Expr, Place}
 use Rattle.c_tree.specs.declared.statement.CCallee.{CCallee}
-use Rattle.c_tree.specs.declared.program.CDeclaration.{CDeclaration}
 use Rattle.c_tree.specs.declared.program.CProgram.{CProgram}
-use Rattle.c_meaning.specs.Cells.{Int, Block, Blocks}
+use Rattle.c_meaning.specs.Cells.{Int, Blocks}
 use Rattle.c_meaning.specs.Types.{Plain}
 use Rattle.c_meaning.specs.Answer.{Got}
-use Rattle.c_meaning.specs.Values.{Value, int}
-use Rattle.c_meaning.specs.Evaluate.{value}
 use Rattle.c_meaning.specs.States as m
 use Rattle.c_meaning.specs.States.{view}
-use Rattle.c_meaning.specs.Steps.{names_from, result_of, returned}
+use Rattle.c_meaning.specs.Steps.{names_from, CStep}
 use Rattle.c_cells.specs.Slots.{int_block, HoldsInt}
 use Rattle.c_evaluation.specs.declared.numbers.Variable.{Variable}
 use Rattle.c_evaluation.specs.declared.numbers.Number.{Number}
@@ -23,10 +20,12 @@ use Rattle.c_stepper.specs.declared.guide.Guide.{Guide}
 use Rattle.c_stepper.specs.declared.runner.Frame.{Frame}
 use Rattle.c_stepper.specs.Guides.{IsGuide}
 use Rattle.c_stepper.specs.Runners as r
-use Rattle.c_stepper.specs.Runners.{variables_at, statement_at}
+use Rattle.c_stepper.specs.Runners.{variables_at, statement_at, state_of, Acts}
+use Rattle.c_stepper.specs.declared.runner.Runner.{Runner}
+use Rattle.c_stepper.specs.declared.runner.Done.{Done}
+use Rattle.c_cells.specs.declared.halt.Halt.{Halt}
+use Rattle.c_stepper.specs.Quick.{ReadsNot}
 use Rattle.c_stepper.specs.Calls.{IsEntry, entered_of, entered}
-
--- ---- calls
 
 -- the place for an answer is the block of the variable, which is there, or there is none
 abbrev pub IsTargetOf : Blocks → ℕ → Option Variable → m.Target → Type 0
@@ -46,23 +45,13 @@ pub record Entering (f : Frame) (blocks : Blocks) (call : ResolvedCall) (e : Ent
   pub target : IsTargetOf blocks f.base call.target (r.target_of e.target)
   pub parameters : HoldAll blocks f.base call.arguments.items e.parameters
 
--- the call that comes next enters this, in each program whose guide this is
+-- a call comes next, and it enters this, in each program whose guide this is
 abbrev pub QuickEntry : Guide → Frame → Blocks → Entry → Type 0
-QuickEntry guide f blocks e = (c : CProgram) (into : Option Place) (who : CCallee) (arguments : List Expr) → IsGuide c guide → statement_at c f ≡ Some (t.Call into who arguments)
-    → IsEntry c e × (Got (entered_of e) ≡ entered c (view c f.reach (names_from f.base (variables_at c f)) blocks) into who arguments)
+QuickEntry guide f blocks e = (c : CProgram) → IsGuide c guide → (into : Option Place) × (who : CCallee) × (arguments : List Expr) × (statement_at c f ≡ Some (t.Call into who arguments))
+    × IsEntry c e × (Got (entered_of e) ≡ entered c (view c f.reach (names_from f.base (variables_at c f)) blocks) into who arguments)
 
--- ---- answers
-
--- the `return` that comes next gives this number
-abbrev pub GivesNumber : Guide → Frame → Blocks → ℤ → Type 0
-GivesNumber guide f blocks z = (c : CProgram) (e : Option Expr) → IsGuide c guide → statement_at c f ≡ Some (t.Return e)
-    → (x : Expr) × (e ≡ Some x) × (value (view c f.reach (names_from f.base (variables_at c f)) blocks) x ≡ Got (int z))
-
--- a function with this result gives this of the number
-abbrev pub Gives : Option ObjectType → ℤ → Value → Type 0
-Gives of z given = (ds : List CDeclaration) → result_of ds of (int z) ≡ Got given
-
--- the `return` that comes next gives this
-abbrev pub QuickGiven : Guide → Frame → Blocks → Option ObjectType → Value → Type 0
-QuickGiven guide f blocks of given = (c : CProgram) (e : Option Expr) → IsGuide c guide → statement_at c f ≡ Some (t.Return e)
-    → Got (Some given) ≡ returned (view c f.reach (names_from f.base (variables_at c f)) blocks) of e
+-- a step that numbers alone say, or none, with which the state stays as it is
+abbrev pub Leaps : CProgram → (old new : Runner) → Result (Option Done) Halt → Type 0
+Leaps c old new (Ok None) = (input output calls : List ℕ) → state_of c new input output calls ≡ state_of c old input output calls
+Leaps c old new (Ok (Some done)) = ReadsNot old.guide old.frame × ((input output calls : List ℕ) → Acts c new input output calls (Ok done) (CStep c (state_of c old input output calls)))
+Leaps c old new (Err halt) = (input output calls : List ℕ) → Acts c new input output calls (Err halt) (CStep c (state_of c old input output calls))

@@ -5,7 +5,6 @@ ghost use Rattle.c_meaning.specs.Steps.{do_statement, CStep, after_byte};
 ghost use Rattle.c_stepper.specs.Spots.{list_in, todo_at};
 ghost use Rattle.c_stepper.specs.Runners.{state_of, runner_view, body_at, first_of, FitsFrames, IsSettled, statement_at, is_reading, reads_in, reads_here, Seeks, Acts};
 
-use crate::quick::quick;
 use crate::runner::{Done, Runner, written_text};
 use crate::spot::{at, list_at};
 use c_cells::halt::Halt;
@@ -143,26 +142,8 @@ impl Runner {
     }
 
     /// The statement that comes next.
-    fn act(&mut self, program: &CProgram, statement: &CStatement) -> Result<Done, Halt>
-        requires fits { FitsFrames program.now self.old }
-        requires small { self.old.frame.spot.at + 1 < 2 ^ 64 }
-        requires here { statement_at program.now self.old.frame ≡ Some statement.now }
-        requires other { is_reading statement.now ≡ false }
-        ensures act { (input output calls : List ℕ) → Acts program.now self.new input output calls result
-            (do_statement program.now (runner_view program.now self.old) (state_of program.now self.old input output calls)
-            (todo_at (body_at program.now self.old.frame) self.old.frame.spot.outer.items (self.old.frame.spot.at + 1)) statement.now) }
-        ensures fits { OnOk result (FitsFrames program.now self.new) }
-    {
-        if quick(&mut self.frame, &mut self.memory, &self.guide)? {
-            Ok(Done::Going)
-        } else {
-            self.act_stepwise(program, statement)
-        }
-    }
-
-    /// The same by its parts, one after another.
     #[tactic(auto, using(crate::proofs::Stepping::stays_fits))]
-    fn act_stepwise(&mut self, program: &CProgram, statement: &CStatement) -> Result<Done, Halt>
+    fn act(&mut self, program: &CProgram, statement: &CStatement) -> Result<Done, Halt>
         requires fits { FitsFrames program.now self.old }
         requires small { self.old.frame.spot.at + 1 < 2 ^ 64 }
         requires here { statement_at program.now self.old.frame ≡ Some statement.now }

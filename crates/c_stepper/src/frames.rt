@@ -1,7 +1,8 @@
 //! Functions that are entered and that end.
-ghost use Rattle.std.specs.Prelude.{◌≡◌, ◌+◌, ◌<◌, ◌^◌, ◌≤◌, ◌++◌, ◌∷◌, [], ℕ, List, IfOk, OnOk, MatchOption, Some, false, length};
-ghost use Rattle.std.specs.Option.{option_map, is_some};
+ghost use Rattle.std.specs.Prelude.{◌≡◌, ◌+◌, ◌<◌, ◌^◌, ◌≤◌, ◌++◌, ◌∷◌, [], ℕ, List, IfOk, OnOk, MatchOption, Some, false, length, slice_get};
+ghost use Rattle.std.specs.Option.{option_copied, option_map, is_some};
 ghost use Rattle.c_tree.specs.Tree as t;
+ghost use Rattle.c_tree.specs.declared.program.CProgram.{CProgram};
 ghost use Rattle.c_meaning.specs.Cells.{Blocks};
 ghost use Rattle.c_meaning.specs.Fresh.{fresh_blocks};
 ghost use Rattle.c_meaning.specs.States.{State, without};
@@ -20,8 +21,6 @@ ghost use Rattle.c_stepper.specs.Leaving.{given_of, Answers};
 use crate::call::{Entry, entered};
 use crate::guide::Guide;
 use crate::leave::{Given, answer_stored, forget_variables, put_answer, returned, status_of};
-use crate::names::ends_in_number;
-use crate::quick_call::{quick_entry, quick_given};
 use crate::runner::{Done, Frame, Runner, Target, written_text};
 use crate::spot::Spot;
 use c_cells::fresh::push_fresh;
@@ -35,12 +34,19 @@ use c_tree::statement::CCallee;
 use std::alloc::{AllocError, Global};
 use std::mem;
 
-/// Whether a call of the function with a number is counted.
-fn is_counted(program: &CProgram, function: usize) -> bool
-    ensures { result ≡ is_some (number_at_end (name_at program.now function)) }
+/// The mark at the number of a function.
+fn mark_at(marks: &[bool], function: usize) -> Option<&bool>
+    ensures { option_copied result ≡ slice_get marks.now function }
 {
-    match program.functions.get(function) {
-        Some(found) => ends_in_number(found.name.as_slice()),
+    marks.get(function)
+}
+
+/// Whether a call of the function with a number is counted.
+fn is_counted(guide: &Guide, function: usize) -> bool
+    ensures { (c : CProgram) → IsGuide c guide.now → result ≡ is_some (number_at_end (name_at c function)) }
+{
+    match mark_at(&guide.counted, function) {
+        Some(counted) => *counted,
         None => false,
     }
 }
@@ -53,7 +59,7 @@ fn done_by_call(counted: bool) -> Done
 }
 
 /// The result of a function, or of `main`.
-fn result_of(program: &CProgram, function: Option<usize>) -> Option<Object>
+pub fn result_of(program: &CProgram, function: Option<usize>) -> Option<Object>
     ensures { option_map object_of result ≡ (parts_at program.now function).result }
 {
     match function {
@@ -77,7 +83,7 @@ fn push_frame(below: &mut Vec<Frame>, frame: Frame) -> Result<(), AllocError>
 }
 
 /// Takes the frame that was added last.
-fn last_frame(below: &mut Vec<Frame>) -> Option<Frame>
+pub fn last_frame(below: &mut Vec<Frame>) -> Option<Frame>
     ensures { MatchOption result ((below.old.items ≡ []) × (below.new.items ≡ [])) (λ last. below.old.items ≡ below.new.items ++ last ∷ []) }
 {
     below.pop()
@@ -91,16 +97,16 @@ impl Runner {
     {
         let guide = Guide::new(alloc, program)?;
         let mut memory = Memory::new(alloc);
-        let declared = program.declarations.as_slice();
+        let declared = guide.declared(program);
         let base = push_fresh(
             alloc,
             true,
-            declared,
+            &declared,
             program.globals.as_slice(),
             &mut memory,
         )?;
         let locals = program.main.locals.as_slice();
-        push_fresh(alloc, false, declared, locals, &mut memory)?;
+        push_fresh(alloc, false, &declared, locals, &mut memory)?;
         let frame = Frame {
             function: None,
             reach: program.functions.len(),
@@ -112,34 +118,14 @@ impl Runner {
             frame,
             below: Vec::new(alloc),
             memory,
+            spare: Memory::new(alloc),
             guide,
             alloc,
         })
     }
 
-    /// What the call that comes next enters.
+    /// What a call enters.
     fn entry<'a>(
-        &'a self,
-        program: &'a CProgram,
-        into: &'a Option<CPlace>,
-        who: &'a CCallee,
-        arguments: &'a [CExpr],
-    ) -> Result<Entry, Halt>
-        requires fits { FitsFrame program.now self.now.frame }
-        requires guide { IsGuide program.now self.now.guide }
-        requires here { statement_at program.now self.now.frame ≡ Some (t.Call into.now who.now arguments.now) }
-        ensures entry { IfOk result (IsEntry program.now) }
-        ensures value { Tells entered_of result (entered program.now (runner_view program.now self.now) into.now who.now arguments.now) }
-    {
-        let found = quick_entry(self.alloc, &self.frame, &self.memory, &self.guide)?;
-        match found {
-            Some(entry) => Ok(entry),
-            None => self.entry_stepwise(program, into, who, arguments),
-        }
-    }
-
-    /// The same by its parts, one after another.
-    fn entry_stepwise<'a>(
         &'a self,
         program: &'a CProgram,
         into: &'a Option<CPlace>,
@@ -162,7 +148,8 @@ impl Runner {
         function: usize,
         parameters: Memory,
     ) -> Result<usize, AllocError>
-        requires { length parameters ≡ length (parts_at program.now (Some function)).parameters }
+        requires guide { IsGuide program.now self.old.guide }
+        requires parameters { length parameters ≡ length (parts_at program.now (Some function)).parameters }
         ensures base { IfOk result (λ base. base ≡ length self.old.memory) }
         ensures made { OnOk result (self.new.memory ≡ self.old.memory ++ (parameters ++ fresh_blocks false program.now.declarations (parts_at program.now (Some function)).locals)) }
         ensures fits { OnOk result (length self.old.memory + (length (parts_at program.now (Some function)).parameters + length (parts_at program.now (Some function)).locals) < 2 ^ 63) }
@@ -171,14 +158,16 @@ impl Runner {
     {
         let base = self.memory.made();
         let text = written_text(program, Some(function));
-        self.memory.append(parameters)?;
-        let declared = program.declarations.as_slice();
-        push_fresh(self.alloc, false, declared, text.locals, &mut self.memory)?;
+        let mut parameters = parameters;
+        self.memory.append(&mut parameters)?;
+        self.spare = parameters;
+        let declared = self.guide.declared(program);
+        push_fresh(self.alloc, false, &declared, text.locals, &mut self.memory)?;
         Ok(base)
     }
 
     /// Enters a function.
-    fn enter(&mut self, program: &CProgram, entry: Entry) -> Result<Done, Halt>
+    pub fn enter(&mut self, program: &CProgram, entry: Entry) -> Result<Done, Halt>
         requires fits { FitsFrames program.now self.old }
         requires small { self.old.frame.spot.at + 1 < 2 ^ 64 }
         requires entry { IsEntry program.now entry }
@@ -206,7 +195,7 @@ impl Runner {
         self.frame.spot.at += 1;
         let caller = mem::replace(&mut self.frame, frame);
         push_frame(&mut self.below, caller)?;
-        Ok(done_by_call(is_counted(program, function)))
+        Ok(done_by_call(is_counted(&self.guide, function)))
     }
 
     pub fn call(
@@ -218,7 +207,6 @@ impl Runner {
     ) -> Result<Done, Halt>
         requires fits { FitsFrames program.now self.old }
         requires small { self.old.frame.spot.at + 1 < 2 ^ 64 }
-        requires here { statement_at program.now self.old.frame ≡ Some (t.Call into.now who.now arguments.now) }
         ensures act { (input output calls : List ℕ) → Acts program.now self.new input output calls result
             (do_statement program.now (runner_view program.now self.old) (state_of program.now self.old input output calls)
             (todo_at (body_at program.now self.old.frame) self.old.frame.spot.outer.items (self.old.frame.spot.at + 1)) (t.Call into.now who.now arguments.now)) }
@@ -230,26 +218,8 @@ impl Runner {
 
     // ---- the end of a function
 
-    /// What the `return` that comes next gives.
+    /// What a `return` gives.
     fn given<'p>(
-        &self,
-        program: &'p CProgram,
-        e: &'p Option<CExpr>,
-    ) -> Result<Option<Given<'p>>, Halt>
-        requires fits { FitsFrame program.now self.now.frame }
-        requires guide { IsGuide program.now self.now.guide }
-        requires here { statement_at program.now self.now.frame ≡ Some (t.Return e.now) }
-        ensures { Tells (option_map given_of) result (m.returned (runner_view program.now self.now) (parts_at program.now self.now.frame.function).result e.now) }
-    {
-        let of = result_of(program, self.frame.function);
-        match quick_given(&self.frame, &self.memory, &self.guide, of) {
-            Some(given) => Ok(Some(given)),
-            None => self.given_stepwise(program, e),
-        }
-    }
-
-    /// The same by its parts, one after another.
-    fn given_stepwise<'p>(
         &self,
         program: &'p CProgram,
         e: &'p Option<CExpr>,
@@ -275,7 +245,7 @@ impl Runner {
 
     /// Makes the blocks of the function that runs be gone.
     #[tactic(auto, using(crate::proofs::Leaving::both_gone))]
-    fn forget_frame(&mut self, program: &CProgram)
+    pub fn forget_frame(&mut self, program: &CProgram)
         requires { FitsFrame program.now self.old.frame }
         ensures { self.new ≡ record self.old { memory = without (names_from self.old.frame.base (variables_at program.now self.old.frame)) self.old.memory } }
     {
@@ -332,7 +302,6 @@ impl Runner {
 
     pub fn give(&mut self, program: &CProgram, e: &Option<CExpr>) -> Result<Done, Halt>
         requires fits { FitsFrames program.now self.old }
-        requires here { statement_at program.now self.old.frame ≡ Some (t.Return e.now) }
         ensures act { (input output calls : List ℕ) → Acts program.now self.new input output calls result
             (do_statement program.now (runner_view program.now self.old) (state_of program.now self.old input output calls)
             (todo_at (body_at program.now self.old.frame) self.old.frame.spot.outer.items (self.old.frame.spot.at + 1)) (t.Return e.now)) }

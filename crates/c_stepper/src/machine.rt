@@ -6,10 +6,12 @@ ghost use Rattle.p2c_outside.specs.Counts.{Rose};
 ghost use Rattle.p2c_outside.specs.Told.{Gains, IsEmpty};
 ghost use Rattle.held_bytes.specs.Written.{GainsPart};
 ghost use Rattle.held_bytes.specs.Held.{bytes_in, IsDry};
+ghost use Rattle.c_stepper.specs.Quick.{ReadsNot};
 ghost use Rattle.c_stepper.specs.Runners.{FitsFrames, IsSettled, statement_at, reads_in, reads_here, Acts};
-ghost use Rattle.c_stepper.specs.Machines.{stood, IsFor, Begins, Steps, Takes, Closes, Writes, IsOver, SameBut, PutFaults, TakeFaults, RunFaults, Ran, TakesFew, HasStatus, ended_by};
+ghost use Rattle.c_stepper.specs.Machines.{stood, IsFor, Begins, StandsAs, Dashes, Steps, Takes, Closes, Writes, IsOver, SameBut, PutFaults, TakeFaults, RunFaults, Ran, TakesFew, HasStatus, ended_by};
 
 use crate::act::reads;
+use crate::quick::quick_steps;
 use crate::runner::{Done, Runner};
 use c_cells::halt::Halt;
 use c_meaning::StuckKind;
@@ -309,6 +311,108 @@ impl Machine {
         }
     }
 
+    /// Steps of which numbers alone say what they do, at most so many. The answer is how many.
+    fn dash(&mut self, program: &CProgram, most: u64) -> u64
+        requires is_for { IsFor program.now self.old }
+        requires going { self.old.over ≡ None }
+        requires few { self.old.taken + most < 2 ^ 64 }
+        ensures dashes { Dashes program.now self.old self.new result }
+        ensures is_for { IsFor program.now self.new }
+        ensures most { result ≤ most }
+    {
+        let taken = quick_steps(
+            &mut self.runner.frame,
+            &mut self.runner.memory,
+            &self.runner.guide,
+            most,
+        );
+        self.taken += taken;
+        taken
+    }
+
+    /// The call or the `return` that comes next, where numbers alone say what it does.
+    fn leap<O: Sink>(&mut self, program: &CProgram, out: &mut O) -> Option<Stepped>
+        requires is_for { IsFor program.now self.old }
+        requires going { self.old.over ≡ None }
+        requires few { self.old.taken + 1 < 2 ^ 64 }
+        ensures step { IfSome result (λ stepped. (left output calls : List ℕ) → length calls ≡ self.old.calls
+            → Steps program.now self.old.output.bytes.items self.old.calls self.new (Some left) (O.written out.old) (O.written out.new) output calls stepped (CStep program.now (stood program.now self.old left output calls))) }
+        ensures reads_not { result ≡ Some Stepped.Going → ReadsNot self.old.runner.guide self.old.runner.frame }
+        ensures is_for { IsFor program.now self.new }
+        ensures over { IfSome result (IsOver self.old self.new) }
+        ensures taken { result ≡ Some Stepped.Going → self.new.taken ≡ self.old.taken + 1 }
+        ensures input { self.new.input ≡ self.old.input }
+        ensures faults { IfSome result (PutFaults (O.faults out.old) (O.faults out.new)) }
+        ensures no_input { result ≢ Some Stepped.InputFault }
+        ensures none { result ≡ None → StandsAs program.now self.old self.new × (out.new ≡ out.old) }
+    {
+        match self.runner.quick_change(program) {
+            Ok(Some(done)) => Some(self.after(done, out)),
+            Ok(None) => None,
+            Err(halt) => Some(self.halt(halt, out)),
+        }
+    }
+
+    /// The next step, by the statement that comes next in the program's text.
+    fn stepwise<I: Source, O: Sink>(
+        &mut self,
+        program: &CProgram,
+        input: &mut I,
+        out: &mut O,
+    ) -> Stepped
+        requires is_for { IsFor program.now self.old }
+        requires going { self.old.over ≡ None }
+        requires few { self.old.taken + 1 < 2 ^ 64 }
+        requires end { self.old.input.over ≡ true → IsEmpty (I.left input.old) }
+        ensures step { (left output calls : List ℕ) → I.left input.old ≡ Some left → length calls ≡ self.old.calls
+            → Steps program.now self.old.output.bytes.items self.old.calls self.new (I.left input.new) (O.written out.old) (O.written out.new) output calls result (CStep program.now (stood program.now self.old left output calls)) }
+        ensures takes { Takes program.now self.old self.new (I.left input.old) (I.left input.new) (O.written out.old) (O.written out.new) result }
+        ensures over { IsOver self.old self.new result }
+        ensures is_for { IsFor program.now self.new }
+        ensures taken { result ≡ Stepped.Going → self.new.taken ≡ self.old.taken + 1 }
+        ensures end { self.new.input.over ≡ true → IsEmpty (I.left input.new) }
+        ensures untaken { self.old.input.over ≡ true → input.new ≡ input.old }
+        ensures put_first { (input.new ≡ input.old) ⊎ ((self.new.output.bytes.items ≡ []) × (result ≢ Stepped.OutputFault)) }
+        ensures put_faults { PutFaults (O.faults out.old) (O.faults out.new) result }
+        ensures take_faults { TakeFaults (I.faults input.old) (I.faults input.new) result }
+    {
+        let next = self.runner.settle(program);
+        if reads(next) {
+            self.read(program, input, out)
+        } else {
+            self.act(program, next, out)
+        }
+    }
+
+    /// The next step: a call or a `return` by numbers alone, where they say it, else any statement.
+    fn next_step<I: Source, O: Sink>(
+        &mut self,
+        program: &CProgram,
+        input: &mut I,
+        out: &mut O,
+    ) -> Stepped
+        requires is_for { IsFor program.now self.old }
+        requires going { self.old.over ≡ None }
+        requires few { self.old.taken + 1 < 2 ^ 64 }
+        requires end { self.old.input.over ≡ true → IsEmpty (I.left input.old) }
+        ensures step { (left output calls : List ℕ) → I.left input.old ≡ Some left → length calls ≡ self.old.calls
+            → Steps program.now self.old.output.bytes.items self.old.calls self.new (I.left input.new) (O.written out.old) (O.written out.new) output calls result (CStep program.now (stood program.now self.old left output calls)) }
+        ensures takes { Takes program.now self.old self.new (I.left input.old) (I.left input.new) (O.written out.old) (O.written out.new) result }
+        ensures over { IsOver self.old self.new result }
+        ensures is_for { IsFor program.now self.new }
+        ensures taken { result ≡ Stepped.Going → self.new.taken ≡ self.old.taken + 1 }
+        ensures end { self.new.input.over ≡ true → IsEmpty (I.left input.new) }
+        ensures untaken { self.old.input.over ≡ true → input.new ≡ input.old }
+        ensures put_first { (input.new ≡ input.old) ⊎ ((self.new.output.bytes.items ≡ []) × (result ≢ Stepped.OutputFault)) }
+        ensures put_faults { PutFaults (O.faults out.old) (O.faults out.new) result }
+        ensures take_faults { TakeFaults (I.faults input.old) (I.faults input.new) result }
+    {
+        match self.leap(program, out) {
+            Some(stepped) => stepped,
+            None => self.stepwise(program, input, out),
+        }
+    }
+
     /// One step. A machine that answered anything but `Going` answers it again, and does nothing.
     pub fn step<I: Source, O: Sink>(
         &mut self,
@@ -337,11 +441,10 @@ impl Machine {
         if let Some(answer) = self.over {
             return answer;
         }
-        let next = self.runner.settle(program);
-        if reads(next) {
-            self.read(program, input, out)
+        if self.dash(program, 1) > 0 {
+            Stepped::Going
         } else {
-            self.act(program, next, out)
+            self.next_step(program, input, out)
         }
     }
 }
@@ -379,7 +482,8 @@ fn run_from<I: Source, O: Sink>(
     let mut machine = machine;
     let mut left = steps;
     while left > 0 {
-        match machine.step(program, input, out) {
+        left -= machine.dash(program, left - 1);
+        match machine.next_step(program, input, out) {
             Stepped::Going => {
                 left -= 1;
             }

@@ -1,26 +1,19 @@
-//! Calls and answers that reckon with numbers alone.
-ghost use Rattle.std.specs.Prelude.{◌≡◌, true, IfOk, IfSome};
-ghost use Rattle.std.specs.Option.{option_map};
-ghost use Rattle.c_tree.specs.Tree.{Int};
-ghost use Rattle.c_evaluation.specs.Types.{object_of};
-ghost use Rattle.c_stepper.specs.Runners.{target_of as meant};
-ghost use Rattle.c_stepper.specs.Leaving.{given_of};
-ghost use Rattle.c_stepper.specs.QuickCalls.{IsTargetOf, HoldAll, Entering, QuickEntry, Gives, GivesNumber, QuickGiven};
+//! Calls that reckon with numbers alone.
+ghost use Rattle.std.specs.Prelude.{◌+◌, ◌<◌, ◌^◌, IfOk, IfSome, OnOk};
+ghost use Rattle.c_stepper.specs.Runners.{target_of as meant, FitsFrames};
+ghost use Rattle.c_stepper.specs.QuickCalls.{IsTargetOf, HoldAll, Entering, QuickEntry, Leaps};
 
 use crate::call::Entry;
 use crate::guide::Guide;
-use crate::leave::Given;
 use crate::quick::node_here;
 use crate::resolved::{Resolved, ResolvedCall};
-use crate::runner::{Frame, Target};
-use c_cells::cell::{Cell, CellNode};
+use crate::runner::{Done, Frame, Runner, Target};
+use c_cells::halt::Halt;
 use c_cells::memory::Memory;
-use c_cells::tree::CellTree;
 use c_evaluation::numbers::{Number, Variable, evaluated, place_number};
-use c_evaluation::types::{Layer, Object};
-use std::alloc::{AllocError, Global};
-
-// ---- calls
+use c_tree::program::CProgram;
+use std::alloc::AllocError;
+use std::mem;
 
 /// Where an answer goes: to a variable of `int64_t` that is there, or nowhere.
 #[tactic(auto, using(crate::proofs::QuickCalling::variable_target))]
@@ -42,16 +35,18 @@ fn target_of(memory: &Memory, base: usize, target: Option<Variable>) -> Option<T
     }
 }
 
-/// The blocks of the parameters that get these numbers, where each number is found.
+/// The blocks of the parameters that get these numbers, where each number is found. They are made
+/// in the spare memory.
 fn parameters_of(
-    alloc: Global,
+    spare: Memory,
     memory: &Memory,
     base: usize,
     numbers: &[Number],
 ) -> Result<Option<Memory>, AllocError>
     ensures { IfOk result (λ o. IfSome o (HoldAll memory.now base numbers.now)) }
 {
-    let mut parameters = Memory::new(alloc);
+    let mut parameters = spare;
+    parameters.clear();
     let mut rest = numbers;
     while let Some((first, after)) = rest.split_first() {
         let Some(z) = evaluated(memory, base, first) else {
@@ -65,7 +60,7 @@ fn parameters_of(
 
 /// What a call enters.
 fn entering(
-    alloc: Global,
+    spare: Memory,
     memory: &Memory,
     frame: &Frame,
     call: &ResolvedCall,
@@ -78,7 +73,7 @@ fn entering(
     let Some(target) = target_of(memory, frame.base, call.target) else {
         return Ok(None);
     };
-    match parameters_of(alloc, memory, frame.base, call.arguments.as_slice())? {
+    match parameters_of(spare, memory, frame.base, call.arguments.as_slice())? {
         Some(parameters) => Ok(Some(Entry {
             function: call.function,
             target,
@@ -89,78 +84,50 @@ fn entering(
 }
 
 /// What the call that comes next enters, where numbers alone say it.
-pub fn quick_entry(
-    alloc: Global,
+fn quick_entry(
+    spare: Memory,
     frame: &Frame,
     memory: &Memory,
     guide: &Guide,
 ) -> Result<Option<Entry>, AllocError>
-    ensures { IfOk result (λ o. IfSome o (QuickEntry guide.now frame.now memory.now)) }
+    ensures entry { IfOk result (λ o. IfSome o (λ e. QuickEntry guide.now frame.now memory.now e)) }
+    ensures small { IfOk result (λ o. IfSome o (λ _. frame.now.spot.at + 1 < 2 ^ 64)) }
 {
     let Some(node) = node_here(guide, frame) else {
         return Ok(None);
     };
     match &node.resolved {
-        Resolved::Call(call) => entering(alloc, memory, frame, call),
+        Resolved::Call(call) => entering(spare, memory, frame, call),
         _ => Ok(None),
     }
 }
 
-// ---- answers
-
-/// The number that the `return` that comes next gives, where numbers alone say it.
-fn number_given(frame: &Frame, memory: &Memory, guide: &Guide) -> Option<i64>
-    ensures { IfSome result (λ z. GivesNumber guide.now frame.now memory.now z) }
-{
-    match node_here(guide, frame) {
-        None => None,
-        Some(node) => match &node.resolved {
-            Resolved::Give(number) => evaluated(memory, frame.base, number),
-            _ => None,
-        },
-    }
-}
-
-fn is_int(of: Object) -> bool
-    ensures { result ≡ true → object_of of.entry ≡ Int }
-{
-    match of.layer() {
-        Layer::Int => true,
-        _ => false,
-    }
-}
-
-/// A number as the answer of a function with this result, where it is one.
-#[tactic(auto, using(crate::proofs::QuickCalling::gives))]
-fn given_as<'p>(of: Option<Object<'p>>, z: i64) -> Option<Given<'p>>
-    ensures { IfSome result (λ given. Gives (option_map object_of of.entry) z (given_of given)) }
-{
-    match of {
-        Some(of) => {
-            if is_int(of) {
-                let tree = CellTree::leaf(Cell {
-                    node: CellNode::Int(z),
-                });
-                Some(Given { of, tree })
-            } else {
-                None
-            }
+impl Runner {
+    /// The call that comes next, where numbers alone say what it enters.
+    pub fn quick_call(&mut self, program: &CProgram) -> Result<Option<Done>, Halt>
+        requires fits { FitsFrames program.now self.old }
+        ensures leaps { Leaps program.now self.old self.new result }
+        ensures fits { OnOk result (FitsFrames program.now self.new) }
+    {
+        let spare = mem::replace(&mut self.spare, Memory::new(self.alloc));
+        let found = quick_entry(spare, &self.frame, &self.memory, &self.guide)?;
+        match found {
+            None => Ok(None),
+            Some(entry) => self.enter_found(program, entry),
         }
-        None => None,
     }
-}
 
-/// The answer that the `return` that comes next gives, where numbers alone say it.
-pub fn quick_given<'p>(
-    frame: &Frame,
-    memory: &Memory,
-    guide: &Guide,
-    of: Option<Object<'p>>,
-) -> Option<Given<'p>>
-    ensures { IfSome result (λ given. QuickGiven guide.now frame.now memory.now (option_map object_of of.entry) (given_of given)) }
-{
-    match number_given(frame, memory, guide) {
-        Some(z) => given_as(of, z),
-        None => None,
+    /// Enters what the call that comes next enters.
+    fn enter_found(&mut self, program: &CProgram, entry: Entry) -> Result<Option<Done>, Halt>
+        requires fits { FitsFrames program.now self.old }
+        requires small { self.old.frame.spot.at + 1 < 2 ^ 64 }
+        requires entry { QuickEntry self.old.guide self.old.frame self.old.memory entry }
+        ensures leaps { Leaps program.now self.old self.new result }
+        ensures fits { OnOk result (FitsFrames program.now self.new) }
+    {
+        match self.enter(program, entry) {
+            Ok(done) => Ok(Some(done)),
+            Err(halt) => Err(halt),
+        }
     }
 }

@@ -7,5 +7,5 @@ mod code;
 mod note;
 mod resolve;
 
-pub use code::{Code, Node, Resolved, ResolvedCall};
+pub use code::{Code, Node, Resolved, ResolvedCall, Row};
 pub use note::ProgramCode;

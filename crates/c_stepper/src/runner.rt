@@ -72,6 +72,8 @@ pub struct Runner {
     pub frame: Frame,
     pub below: Vec<Frame>,
     pub memory: Memory,
+    /// Room for the parameters of the next call.
+    pub spare: Memory,
     pub guide: Guide,
     pub alloc: Global,
 }
@@ -340,8 +342,8 @@ impl Runner {
             (todo_at (body_at program.now self.old.frame) self.old.frame.spot.outer.items (self.old.frame.spot.at + 1)) (t.Malloc place.now of.now)) }
         ensures stays { Stays self.old self.new }
     {
-        let declared = program.declarations.as_slice();
-        let block = fresh_block(self.alloc, false, true, declared, of)?;
+        let declared = self.guide.declared(program);
+        let block = fresh_block(self.alloc, false, true, &declared, of)?;
         let Store { number, path, tree } = self.address(program, place, of)?;
         let at = path.as_slice();
         self.memory.store(self.alloc, number, at, tree)?;

@@ -1,7 +1,7 @@
 //! Where a function stands in its text.
 
 ghost use Rattle.std.specs.Option.{option_copied};
-ghost use Rattle.std.specs.Prelude.{◌+◌, IfSome, ◌≡◌, ◌<◌, ◌⊎◌, ◌++◌, ◌∷◌, [], slice_get, length, OnOk};
+ghost use Rattle.std.specs.Prelude.{◌+◌, IfSome, ◌≡◌, ◌<◌, ◌⊎◌, ◌++◌, ◌∷◌, [], slice_get, length, OnOk, OnErr};
 ghost use Rattle.c_stepper.specs.Spots.{list_in, branch_of, after_of, todo_of};
 
 use c_tree::statement::{CStatement, CStatementNode};
@@ -104,7 +104,8 @@ impl Spot {
 
     /// Goes into a branch of the statement that comes next.
     pub fn enter(&mut self, second: bool) -> Result<(), AllocError>
-        ensures { OnOk result ((self.new.outer.items ≡ self.old.outer.items ++ record { at = self.old.at; second = second } ∷ []) × (self.new.at ≡ 0)) }
+        ensures entered { OnOk result ((self.new.outer.items ≡ self.old.outer.items ++ record { at = self.old.at; second = second } ∷ []) × (self.new.at ≡ 0)) }
+        ensures stays { OnErr result ((self.new.outer.items ≡ self.old.outer.items) × (self.new.at ≡ self.old.at)) }
     {
         self.outer.push(Level {
             at: self.at,

@@ -1,4 +1,5 @@
 //! Resolved statements.
+ghost use Rattle.std.specs.Prelude.{◌≡◌};
 
 use c_evaluation::numbers::{Number, Variable};
 
@@ -28,18 +29,35 @@ pub enum Resolved {
     Other,
 }
 
-/// A statement, with the places at which the nodes of its branches begin.
+/// Nodes that stand side by side: those of a list of statements.
+#[derive(Clone, Copy)]
+pub struct Row {
+    pub start: usize,
+    pub count: usize,
+}
+
+impl Row {
+    /// That of no statements.
+    pub fn empty() -> Row
+        ensures { result.count ≡ 0 }
+    {
+        Row { start: 0, count: 0 }
+    }
+}
+
+/// A statement, with the rows of its branches.
 #[derive(Drop)]
 pub struct Node {
     pub resolved: Resolved,
-    pub first: usize,
-    pub second: usize,
+    /// Whether it comes again when its branch is done, as a loop does.
+    pub again: bool,
+    pub first: Row,
+    pub second: Row,
 }
 
-/// The statements of a function's text: the nodes of each list stand side by side, and those of
-/// the whole body begin at `start`.
+/// The statements of a function's text, with the row of its body.
 #[derive(Drop)]
 pub struct Code {
     pub nodes: Vec<Node>,
-    pub start: usize,
+    pub row: Row,
 }

@@ -1,10 +1,10 @@
 //! The walk over a program's text.
 ghost use Rattle.std.specs.Prelude.{◌≡◌, ◌++◌, IfOk, OnOk};
 ghost use Rattle.c_evaluation.specs.Numbers.{variables_of};
-ghost use Rattle.c_stepper.specs.Codes.{Inner, IsNode, NotedList, Extends, IsCode, AreCodes, IsProgramCode};
+ghost use Rattle.c_stepper.specs.Codes.{is_loop, Inner, IsNode, IsRow, Extends, IsCode, AreCodes, IsProgramCode};
 ghost use Rattle.name_tables.specs.Tables.{Fits};
 
-use crate::resolved::code::{Code, Node};
+use crate::resolved::code::{Code, Node, Row};
 use crate::resolved::resolve::statement_resolved;
 use c_evaluation::function_names::Names;
 use c_tree::program::{CFunction, CProgram};
@@ -12,11 +12,20 @@ use c_tree::statement::{CStatement, CStatementNode};
 use name_tables::Tables;
 use std::alloc::{AllocError, Global};
 
-/// Where the nodes of a statement's branches begin.
+fn is_loop(statement: &CStatement) -> bool
+    ensures { result ≡ is_loop statement.now }
+{
+    match &statement.node {
+        CStatementNode::While(_, _) => true,
+        _ => false,
+    }
+}
+
+/// The rows of a statement's branches.
 #[derive(Clone, Copy)]
 struct Branches {
-    first: usize,
-    second: usize,
+    first: Row,
+    second: Row,
 }
 
 /// Notes the branches of a statement.
@@ -33,11 +42,17 @@ fn note_branches(
     match &statement.node {
         CStatementNode::If(_, body) => {
             let first = note_list(alloc, names, body.as_slice(), nodes)?;
-            Ok(Branches { first, second: 0 })
+            Ok(Branches {
+                first,
+                second: Row::empty(),
+            })
         }
         CStatementNode::While(_, body) => {
             let first = note_list(alloc, names, body.as_slice(), nodes)?;
-            Ok(Branches { first, second: 0 })
+            Ok(Branches {
+                first,
+                second: Row::empty(),
+            })
         }
         CStatementNode::IfElse(_, body, other) => {
             let first = note_list(alloc, names, body.as_slice(), nodes)?;
@@ -45,8 +60,8 @@ fn note_branches(
             Ok(Branches { first, second })
         }
         _ => Ok(Branches {
-            first: 0,
-            second: 0,
+            first: Row::empty(),
+            second: Row::empty(),
         }),
     }
 }
@@ -64,21 +79,22 @@ fn note_statement(
     let Branches { first, second } = note_branches(alloc, names, statement, nodes)?;
     Ok(Node {
         resolved: statement_resolved(alloc, names, statement)?,
+        again: is_loop(statement),
         first,
         second,
     })
 }
 
-/// Notes the statements of a list. The answer is where their nodes begin.
+/// Notes the statements of a list. The answer is their row.
 #[cycle(note)]
 fn note_list(
     alloc: Global,
     names: &Names,
     list: &[CStatement],
     nodes: &mut Vec<Node>,
-) -> Result<usize, AllocError>
+) -> Result<Row, AllocError>
     ensures extends { OnOk result (Extends nodes.old.items nodes.new.items) }
-    ensures noted { IfOk result (λ at. NotedList names.now.program.now (variables_of names.now) nodes.new.items at list.now) }
+    ensures noted { IfOk result (λ row. IsRow names.now.program.now (variables_of names.now) nodes.new.items row list.now) }
 {
     let mut own = Vec::new(alloc);
     let mut rest = list;
@@ -88,7 +104,10 @@ fn note_list(
     }
     let start = nodes.len();
     nodes.append(&mut own)?;
-    Ok(start)
+    Ok(Row {
+        start,
+        count: list.len(),
+    })
 }
 
 /// The code of a function's text.
@@ -96,8 +115,8 @@ fn code_of(alloc: Global, names: &Names, body: &[CStatement]) -> Result<Code, Al
     ensures { IfOk result (λ code. IsCode names.now.program.now (variables_of names.now) code body.now) }
 {
     let mut nodes = Vec::new(alloc);
-    let start = note_list(alloc, names, body, &mut nodes)?;
-    Ok(Code { nodes, start })
+    let row = note_list(alloc, names, body, &mut nodes)?;
+    Ok(Code { nodes, row })
 }
 
 /// The code of each function's text.

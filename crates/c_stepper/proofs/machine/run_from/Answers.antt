@@ -1,10 +1,10 @@
-use Rattle.std.proofs.Common.{◌≡◌, ◌≢◌, ◌+◌, ◌≤◌, ◌∙◌, refl, sym, subst, arith, List, ℕ, Option, Bool, true, false}
+use Rattle.std.proofs.Common.{◌≡◌, ◌≢◌, ◌+◌, ◌≤◌, ◌∙◌, refl, sym, subst, arith, List, ℕ, Option, Some, Bool, true, false}
 use Rattle.p2c_outside.specs.Counts.{Rose}
 use Rattle.c_stepper.specs.Machines.{Ran, RunFaults, HasStatus, ended_by}
 use Rattle.c_stepper.specs.declared.machine.Stepped.TheVariants as s
 use Rattle.c_stepper.specs.declared.machine.Ended as e
 use Rattle.c_stepper.proofs.Statuses.{taken_few}
-use Rattle.c_stepper.proofs.Running.{Along, along_at_start, along, ends_run, takes_few, last_put, last_few, faults_of, spent_faults}
+use Rattle.c_stepper.proofs.Running.{Along, along_at_start, along, dashed_along, ends_run, takes_few, last_put, last_few, faults_of, spent_faults}
 use Rattle.c_stepper.proofs.machine.run_from.Goals as goal
 
 pub loop-left-init : goal.loop-left-init
@@ -27,49 +27,58 @@ pub loop-left-preserved : goal.loop-left-preserved
 loop-left-preserved g c =
     let p = c.args.program.now in
     let old = c.loop-left.machine in
-    let new = c.step.new.self in
+    let mid = c.dash-left.new.self in
+    let new = c.next_step.new.self in
     let i = c.loop-left.invariant in
+    let d = c.dash-left.ensures.dashes in
     let told = c.in-Going.ensures in
-    let more : new.taken ≡ old.taken + 1 = told.taken i.going refl in
+    let more : new.taken ≡ mid.taken + 1 = told.taken refl in
+    let w = g.O.Sink.written c.args.out.now in
+    let w1 = g.O.Sink.written c.loop-left.out in
+    let left = g.I.Source.left c.loop-left.input in
     record {
       is_for = told.is_for;
-      going = (told.over i.going).going refl ∙ i.going;
-      taken = omega (arith, more, i.taken, c.loop-left-test.true);
+      going = told.over.going refl ∙ d.over ∙ i.going;
+      taken = omega (arith, more, d.taken, i.taken, c.loop-left-test.true, c.dash-left.ensures.most);
       end = told.end;
       along = λ bytes is.
-          along p bytes old new (g.I.Source.left c.loop-left.input) (g.I.Source.left c.step.new.input) (g.O.Sink.written c.args.out.now) (g.O.Sink.written c.loop-left.out) (g.O.Sink.written c.step.new.out) s.Going (i.along bytes is) (told.takes i.going) more refl;
-      no_input = (told.take_faults i.going).none (λ e. cc) ∙ i.no_input;
-      no_output = (told.put_faults i.going).none (λ e. cc) ∙ i.no_output;
+          along p bytes mid new left (g.I.Source.left c.next_step.new.input) w w1 (g.O.Sink.written c.next_step.new.out) s.Going (dashed_along p bytes old mid c.dash-left.result left w w1 (i.along bytes is) d) told.takes more refl;
+      no_input = told.take_faults.none (λ e. cc) ∙ i.no_input;
+      no_output = told.put_faults.none (λ e. cc) ∙ i.no_output;
     }
 
 pub returns-in_default : goal.returns-in_default
 returns-in_default g c =
     let p = c.args.program.now in
-    let old = c.loop-left.machine in
-    let new = c.step.new.self in
+    let before = c.loop-left.machine in
+    let old = c.dash-left.new.self in
+    let new = c.next_step.new.self in
     let i = c.loop-left.invariant in
-    let a = c.step.result in
-    let told = c.step.ensures in
+    let d = c.dash-left.ensures.dashes in
+    let a = c.next_step.result in
+    let told = c.next_step.ensures in
     let w = g.O.Sink.written c.args.out.now in
-    let w2 = g.O.Sink.written c.step.new.out in
+    let w1 = g.O.Sink.written c.loop-left.out in
+    let w2 = g.O.Sink.written c.next_step.new.out in
     let left0 = g.I.Source.left c.loop-left.input in
-    let left1 = g.I.Source.left c.step.new.input in
+    let left1 = g.I.Source.left c.next_step.new.input in
     let gives = c.last_answer.ensures in
     let same = c.in_default.answer-is in
     let last : c.last_answer.result ≡ ended_by new.calls a = cc in
     let n : a ≢ s.Going = c.in_default.not-Going in
-    let within : old.taken + 1 ≤ c.args.steps = omega (arith, i.taken, c.loop-left-test.true) in
+    let within : old.taken + 1 ≤ c.args.steps = omega (arith, d.taken, i.taken, c.loop-left-test.true, c.dash-left.ensures.most) in
+    let stands : (bytes : List ℕ) → g.I.Source.left c.args.input.now ≡ Some bytes → Along p bytes old left0 w w1 = λ bytes is. dashed_along p bytes before old c.dash-left.result left0 w w1 (i.along bytes is) d in
     record {
       ran = λ bytes is.
           subst (λ (r : e.Ended). Ran p bytes left1 c.args.steps w w2 r) (sym last)
-          (ends_run p bytes old new left0 left1 w (g.O.Sink.written c.loop-left.out) w2 a (i.along bytes is) (told.takes i.going) told.end c.args.steps within n);
-      ahead = λ bytes is. takes_few p bytes old new left0 left1 w (g.O.Sink.written c.loop-left.out) w2 a (i.along bytes is) (told.takes i.going) told.end c.args.steps within;
+          (ends_run p bytes old new left0 left1 w w1 w2 a (stands bytes is) told.takes told.end c.args.steps within n);
+      ahead = λ bytes is. takes_few p bytes old new left0 left1 w w1 w2 a (stands bytes is) told.takes told.end c.args.steps within;
       faults =
-          subst (λ (t : ℕ). RunFaults t (g.I.Source.faults c.step.new.input) (g.O.Sink.faults c.args.out.now) (g.O.Sink.faults c.step.new.out) c.last_answer.result) i.no_input
-          (subst (λ (t : ℕ). RunFaults (g.I.Source.faults c.loop-left.input) (g.I.Source.faults c.step.new.input) t (g.O.Sink.faults c.step.new.out) c.last_answer.result) i.no_output
-          (subst (λ (r : e.Ended). RunFaults (g.I.Source.faults c.loop-left.input) (g.I.Source.faults c.step.new.input) (g.O.Sink.faults c.loop-left.out) (g.O.Sink.faults c.step.new.out) r) (sym last)
-          (faults_of new.calls a (g.I.Source.faults c.loop-left.input) (g.I.Source.faults c.step.new.input) (g.O.Sink.faults c.loop-left.out) (g.O.Sink.faults c.step.new.out) (told.take_faults i.going) (told.put_faults i.going))));
-      status = subst HasStatus (sym last) (taken_few p old new left0 left1 (g.O.Sink.written c.loop-left.out) w2 a new.calls (told.takes i.going));
+          subst (λ (t : ℕ). RunFaults t (g.I.Source.faults c.next_step.new.input) (g.O.Sink.faults c.args.out.now) (g.O.Sink.faults c.next_step.new.out) c.last_answer.result) i.no_input
+          (subst (λ (t : ℕ). RunFaults (g.I.Source.faults c.loop-left.input) (g.I.Source.faults c.next_step.new.input) t (g.O.Sink.faults c.next_step.new.out) c.last_answer.result) i.no_output
+          (subst (λ (r : e.Ended). RunFaults (g.I.Source.faults c.loop-left.input) (g.I.Source.faults c.next_step.new.input) (g.O.Sink.faults c.loop-left.out) (g.O.Sink.faults c.next_step.new.out) r) (sym last)
+          (faults_of new.calls a (g.I.Source.faults c.loop-left.input) (g.I.Source.faults c.next_step.new.input) (g.O.Sink.faults c.loop-left.out) (g.O.Sink.faults c.next_step.new.out) told.take_faults told.put_faults)));
+      status = subst HasStatus (sym last) (taken_few p old new left0 left1 w1 w2 a new.calls told.takes);
     }
 
 pub returns-clause-ran : goal.returns-clause-ran

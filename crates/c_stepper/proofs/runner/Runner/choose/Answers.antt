@@ -44,7 +44,7 @@ returns-in_ok-enter-clause-act c = λ input output calls.
     let other = rest in
     let told : chosen v test ≡ Got true = sym (subst (λ w. Got c.in_ok-chosen.chosen ≡ chosen w test) c.scope.ensures.view c.in_ok-chosen.ensures) ∙ ap Got c.if-chosen.true in
     let spot = c.enter.new.self in
-    let todo : todo_of (body_at p old.frame) spot ≡ taken = (λ i. todo_at (body_at p old.frame) (c.in_ok-enter.ensures.0 i) (c.in_ok-enter.ensures.1 i)) ∙ enter_if (body_at p old.frame) old.frame.spot.outer.items old.frame.spot.at test body body c.requires.here in
+    let todo : todo_of (body_at p old.frame) spot ≡ taken = (λ i. todo_at (body_at p old.frame) (c.in_ok-enter.ensures.entered.0 i) (c.in_ok-enter.ensures.entered.1 i)) ∙ enter_if (body_at p old.frame) old.frame.spot.outer.items old.frame.spot.at test body body c.requires.here in
     ap (λ (todo : List Statement). Onward (to_do st todo)) todo ∙ sym (go p v st rest test taken other true told)
 
 pub returns-else-chosen-clause-act : goal.returns-else-chosen-clause-act

@@ -51,6 +51,6 @@ returns-clause-act c = λ input output calls.
     let chose = c.in_ok-chosen.chosen in
     let told : chosen v test ≡ Got chose = sym (subst (λ w. Got chose ≡ chosen w test) c.scope.ensures.view c.in_ok-chosen.ensures) in
     let spot = c.enter.new.self in
-    let enters = c.in_ok-enter.ensures in
+    let enters = c.in_ok-enter.ensures.entered in
     let todo : todo_of list spot ≡ (if chose then taken else other) = (λ i. todo_at list (enters.0 i) (enters.1 i)) ∙ enter_either list outer at test body second chose c.requires.here in
     ap (λ (todo : List Statement). Onward (to_do st todo)) todo ∙ sym (go p v st rest test taken other chose told)

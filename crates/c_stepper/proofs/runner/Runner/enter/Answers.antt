@@ -18,13 +18,13 @@ returns-clause-act c = λ input output calls.
     let blocks : Blocks = c.args.entry.parameters in
     let caller = c.replace-caller.result in
     let rest = todo_at (body_at p old.frame) old.frame.spot.outer.items (old.frame.spot.at + 1) in
-    let new : Runner = record { frame = c.replace-caller.new.dest; below = c.push_frame.new.below; memory = c.make_blocks.new.self.memory; guide = c.make_blocks.new.self.guide; alloc = c.make_blocks.new.self.alloc } in
+    let new : Runner = record { frame = c.replace-caller.new.dest; below = c.push_frame.new.below; memory = c.make_blocks.new.self.memory; spare = c.make_blocks.new.self.spare; guide = c.make_blocks.new.self.guide; alloc = c.make_blocks.new.self.alloc } in
     let after = c.replace-caller.ensures.after in
     let step : Frame → Frame = λ f. record f { spot = record { outer = f.spot.outer; at = f.spot.at + 1 } } in
     let reach : c.in-Some.reach ≡ n + 1 = omega (arith, c.in-Some.ensures) in
     let below = c.in_ok-push_frame.ensures ∙ ap (λ (l : List Frame). l ++ caller ∷ []) c.in_ok-base.ensures.rest.1 in
     let stepped : frame_of p caller ≡ record (frame_of p old.frame) { todo = rest } = ap (frame_of p) c.replace-caller.ensures.value ∙ ap (λ (f : Frame). frame_of p (step f)) c.in_ok-base.ensures.rest.0 in
-    entry_done_is p new input output calls n c.done_by_call.result c.is_counted.result (entered_state p (state_of p old input output calls) rest (n, target, blocks)) c.done_by_call.ensures c.is_counted.ensures
+    entry_done_is p new input output calls n c.done_by_call.result c.is_counted.result (entered_state p (state_of p old input output calls) rest (n, target, blocks)) c.done_by_call.ensures (c.is_counted.ensures p (subst (IsGuide p) (sym c.in_ok-base.ensures.guide) c.requires.fits.guide))
     (begins p old new caller n target blocks (ap (λ (f : Frame). f.function) after) (ap (λ (f : Frame). f.reach) after ∙ reach) (ap (λ (f : Frame). f.base) after ∙ c.in_ok-base.ensures.base) (ap (λ (f : Frame). f.spot.outer.items) after ∙ c.start.ensures.0) (ap (λ (f : Frame). f.spot.at) after ∙ c.start.ensures.1) (ap (λ (f : Frame). target_of f.target) after)
     below rest stepped c.in_ok-base.ensures.made input output calls)
 
@@ -34,7 +34,7 @@ returns-clause-fits c =
     let old = c.args.self.now in
     let n = c.args.entry.function in
     let caller = c.replace-caller.result in
-    let new : Runner = record { frame = c.replace-caller.new.dest; below = c.push_frame.new.below; memory = c.make_blocks.new.self.memory; guide = c.make_blocks.new.self.guide; alloc = c.make_blocks.new.self.alloc } in
+    let new : Runner = record { frame = c.replace-caller.new.dest; below = c.push_frame.new.below; memory = c.make_blocks.new.self.memory; spare = c.make_blocks.new.self.spare; guide = c.make_blocks.new.self.guide; alloc = c.make_blocks.new.self.alloc } in
     let after = c.replace-caller.ensures.after in
     let step : Frame → Frame = λ f. record f { spot = record { outer = f.spot.outer; at = f.spot.at + 1 } } in
     let is : caller ≡ step old.frame = c.replace-caller.ensures.value ∙ ap step c.in_ok-base.ensures.rest.0 in

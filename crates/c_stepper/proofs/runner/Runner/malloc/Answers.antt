@@ -53,6 +53,6 @@ returns-clause-act c = λ input output calls.
     let new : a ≡ Got c.store.new.self = sym c.in_ok-number.ensures ∙ ap (λ q. store old.memory c.in_ok-number.field-0.number q c.in_ok-number.field-0.tree) (sym path) ∙ c.in_ok-store.ensures.stored in
     let h = made p v st rest c.args.place.now c.args.of.now c.store.new.self new in
     let block : c.in_ok-block.block ≡ record { of = c.args.of.now; tree = fresh false p.declarations c.args.of.now; heap = true } =
-    c.in_ok-block.ensures ∙ ap (λ ds. record { of = c.args.of.now; tree = fresh false ds c.args.of.now; heap = true }) c.as_slice-declared.ensures in
+    c.in_ok-block.ensures ∙ ap (λ ds. record { of = c.args.of.now; tree = fresh false ds c.args.of.now; heap = true }) c.declared-declared.ensures in
     let pushed = c.in_ok-push.ensures ∙ ap (λ (b : Block). c.store.new.self ++ Some b ∷ []) block in
     ap (λ (m : Blocks). Onward (record (to_do st rest) { blocks = m })) pushed ∙ sym h
