@@ -16,11 +16,17 @@ pub block_none : (blocks : Blocks) (n : ℕ) → slice_get blocks n ≡ None →
 unfolding block_at joined_option
 block_none blocks n h = ap joined_option h
 
-pub block_past : (blocks : Blocks) (n : ℕ) → length blocks ≤ n → block_at blocks n ≡ None
+block_past : (blocks : Blocks) (n : ℕ) → length blocks ≤ n → block_at blocks n ≡ None
 unfolding block_at joined_option
 block_past [] n h = refl
 block_past (o ∷ rest) zero h = absurd (omega arith)
 block_past (o ∷ rest) (suc n) h = block_past rest n (omega arith)
+
+pub none_stays : (blocks : Blocks) (n : ℕ) → block_at blocks n ≡ None → slice_set blocks n None ≡ blocks
+unfolding block_at joined_option
+none_stays [] n h = refl
+none_stays (b ∷ rest) zero h = ap (λ o. o ∷ rest) (sym h)
+none_stays (b ∷ rest) (suc n) h = ap (λ l. b ∷ l) (none_stays rest n h)
 
 pub none_past : (blocks : Blocks) (n : ℕ) (o : Option Block) → length blocks ≤ n → slice_set blocks n o ≡ blocks
 none_past [] n o h = refl

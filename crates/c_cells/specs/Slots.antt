@@ -1,5 +1,5 @@
 -- The blocks of slots.
-use Rattle.std.specs.Prelude.{◌≡◌, ℕ, ℤ, false, List, Option, Some, None, slice_get}
+use Rattle.std.specs.Prelude.{◌≡◌, ℕ, ℤ, false, List, [], ◌∷◌, ◌++◌, Option, Some, None, slice_get, replicate}
 use Rattle.c_tree.specs.Tree as t
 use Rattle.c_meaning.specs.declared.StuckKind.TheVariants as k
 use Rattle.c_meaning.specs.Cells.{Cell, Empty, Int, Tree, Leaf, Block, Blocks, with_part}
@@ -40,3 +40,12 @@ HoldsInt blocks n = (cell : Cell) × (slice_get blocks n ≡ Some (Some (int_blo
 abbrev pub changed_block : List ℕ → Tree → Option Block → Answer (Option Block)
 changed_block path new None = Bad k.GoneUse
 changed_block path new (Some b) = Got (Some (record b { tree = with_part path new b.tree }))
+
+-- two lists of slots, and between them so many blocks that are gone
+abbrev pub blocks_of : Blocks → ℕ → Blocks → Blocks
+blocks_of low gap high = low ++ (replicate gap None ++ high)
+
+-- each block is gone
+abbrev pub AllGone : Blocks → Type 0
+AllGone [] = Unit {0}
+AllGone (o ∷ rest) = (o ≡ None) × AllGone rest

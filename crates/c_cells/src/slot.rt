@@ -202,6 +202,16 @@ impl Slot {
         }
     }
 
+    /// Whether the block is gone.
+    pub fn is_gone(&self) -> bool
+        ensures { result ≡ true → self.now ≡ None }
+    {
+        match &self.node {
+            SlotNode::Gone => true,
+            _ => false,
+        }
+    }
+
     /// The slot with another part of its block.
     pub fn with_part(self, alloc: Global, path: &[usize], new: CellTree) -> Result<Slot, Halt>
         ensures { Tells (λ slot. slot) result (changed_block path.now new self) }

@@ -162,17 +162,6 @@ module _ (blocks : Blocks) (base : ℕ) where
 pub variable_target : (blocks : Blocks) (base number : ℕ) (variable : Variable) (target : m.Target) → number ≡ place_number base variable → HoldsInt blocks number → target ≡ m.Into number [] (Plain t.Int) → IsTargetOf blocks base (Some variable) target
 variable_target blocks base number variable target place there is = (is ∙ ap (λ n. m.Into n [] (Plain t.Int)) place, subst (HoldsInt blocks) place there)
 
-pub entries : {X : Type 0} (result : Result (Option Entry) X) (guide : Guide) (f : Frame) (blocks : Blocks) (node : Node) (call : ResolvedCall) → IsHere guide f node → node.resolved ≡ r.Call call
-    → IfOk result (λ o. IfSome o (Entering f blocks call)) → IfOk result (λ o. IfSome o (QuickEntry guide f blocks))
-entries (Ok (Some e)) guide f blocks node call here is h = enters guide f blocks node call e here is h
-entries (Ok None) guide f blocks node call here is h = tt
-entries (Err e) guide f blocks node call here is h = tt
-
-pub in_each : {X P : Type 0} (result : Result (Option Entry) X) → P → IfOk result (λ o. IfSome o (λ _. P))
-in_each (Ok (Some e)) h = h
-in_each (Ok None) h = tt
-in_each (Err e) h = tt
-
 -- ---- a call
 
 pub called : (c : CProgram) (old new : Runner) (e : Entry) (result : Result Done Halt) (input output calls : List ℕ) → FitsFrames c old → QuickEntry old.guide old.frame old.memory e

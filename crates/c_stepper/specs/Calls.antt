@@ -23,6 +23,7 @@ use Rattle.c_meaning.specs.Steps.{called_cell, called_value, target_of, paramete
 use Rattle.c_stepper.specs.Runners as r
 use Rattle.c_stepper.specs.Runners.{parts_at, name_at}
 use Rattle.c_stepper.specs.declared.call.Entry.{Entry}
+use Rattle.c_stepper.specs.declared.runner.Target.{Target}
 use Rattle.c_stepper.specs.declared.runner.Done.{Done}
 use Rattle.c_stepper.specs.declared.runner.Done.TheVariants as d
 
@@ -70,6 +71,9 @@ Entered = ℕ × m.Target × Blocks
 
 abbrev pub entered_of : Entry → Entered
 entered_of e = (e.function, r.target_of e.target, e.parameters)
+
+abbrev pub entry_with : ℕ → Target → Blocks → Entry
+entry_with function target parameters = record { function = function; target = target; parameters = parameters }
 
 -- the function is there, and has a block for each parameter
 pub record IsEntry (c : CProgram) (e : Entry) : Type 0 where

@@ -9,3 +9,4 @@ pub mod Codes
 pub mod Quick
 pub mod QuickCalls
 pub mod QuickReturns
+pub mod QuickChanges

@@ -49,9 +49,3 @@ pub record Entering (f : Frame) (blocks : Blocks) (call : ResolvedCall) (e : Ent
 abbrev pub QuickEntry : Guide → Frame → Blocks → Entry → Type 0
 QuickEntry guide f blocks e = (c : CProgram) → IsGuide c guide → (into : Option Place) × (who : CCallee) × (arguments : List Expr) × (statement_at c f ≡ Some (t.Call into who arguments))
     × IsEntry c e × (Got (entered_of e) ≡ entered c (view c f.reach (names_from f.base (variables_at c f)) blocks) into who arguments)
-
--- a step that numbers alone say, or none, with which the state stays as it is
-abbrev pub Leaps : CProgram → (old new : Runner) → Result (Option Done) Halt → Type 0
-Leaps c old new (Ok None) = (input output calls : List ℕ) → state_of c new input output calls ≡ state_of c old input output calls
-Leaps c old new (Ok (Some done)) = ReadsNot old.guide old.frame × ((input output calls : List ℕ) → Acts c new input output calls (Ok done) (CStep c (state_of c old input output calls)))
-Leaps c old new (Err halt) = (input output calls : List ℕ) → Acts c new input output calls (Err halt) (CStep c (state_of c old input output calls))

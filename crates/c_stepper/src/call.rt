@@ -17,7 +17,8 @@ use c_cells::Path;
 use c_cells::cell::copied;
 use c_cells::fresh::copy_type;
 use c_cells::halt::Halt;
-use c_cells::memory::{Block, Memory};
+use c_cells::memory::Block;
+use c_cells::slot::Slot;
 use c_evaluation::evaluate::{place_of, value_of};
 use c_evaluation::lookup::{function_place, number_of};
 use c_evaluation::place::Site;
@@ -41,7 +42,7 @@ use tree_lists::Items;
 pub struct Entry {
     pub function: usize,
     pub target: Target,
-    pub parameters: Memory,
+    pub parameters: Items<Slot>,
 }
 
 // ---- the callee
@@ -309,18 +310,19 @@ fn blocks_from<'s, 'a>(
     scope: &'s Scope<'a>,
     parameters: &'a [CVariable],
     values: Items<Value<'a>>,
-) -> Result<Memory, Halt>
+) -> Result<Items<Slot>, Halt>
     ensures value { Tells (λ b. b) result (m.parameter_blocks scope.now.program.now.declarations parameters.now (reverse (values_of values.entry))) }
     ensures length { IfOk result (λ blocks. length blocks ≡ length parameters.now) }
 {
     let mut left = values;
-    let mut blocks = Memory::new(scope.alloc);
+    let mut blocks = Items::new(scope.alloc);
     let mut rest = parameters;
     while let [first, after @ ..] = rest {
         let Some(value) = left.pop() else {
             return Err(Halt::Stuck(StuckKind::Mismatch));
         };
-        blocks.push(scope.alloc, parameter_block(scope, first, value)?)?;
+        let block = parameter_block(scope, first, value)?;
+        blocks.push(Slot::new(scope.alloc, block)?)?;
         rest = after;
     }
     if left.is_empty() {
@@ -335,7 +337,7 @@ fn parameter_blocks<'a>(
     scope: &Scope<'a>,
     parameters: &'a [CVariable],
     values: Items<Value<'a>>,
-) -> Result<Memory, Halt>
+) -> Result<Items<Slot>, Halt>
     ensures value { Tells (λ b. b) result (m.parameter_blocks scope.now.program.now.declarations parameters.now (values_of values.entry)) }
     ensures length { IfOk result (λ blocks. length blocks ≡ length parameters.now) }
 {

@@ -15,7 +15,7 @@ ghost use Rattle.c_evaluation.specs.Types.{object_of};
 ghost use Rattle.c_stepper.specs.Guides.{IsGuide};
 ghost use Rattle.c_stepper.specs.Spots.{todo_at};
 ghost use Rattle.c_stepper.specs.Runners.{state_of, runner_view, body_at, frame_of, frames_of, target_of as meant, parts_at, variables_at, FitsFrame, FitsFrames, Acts, name_at, statement_at};
-ghost use Rattle.c_stepper.specs.Calls.{IsEntry, entered_of, entered, entered_state, entry_done};
+ghost use Rattle.c_stepper.specs.Calls.{IsEntry, entry_with, entered_of, entered, entered_state, entry_done};
 ghost use Rattle.c_stepper.specs.Leaving.{given_of, Answers};
 
 use crate::call::{Entry, entered};
@@ -107,6 +107,7 @@ impl Runner {
         )?;
         let locals = program.main.locals.as_slice();
         push_fresh(alloc, false, &declared, locals, &mut memory)?;
+        memory.seal();
         let frame = Frame {
             function: None,
             reach: program.functions.len(),
@@ -118,7 +119,7 @@ impl Runner {
             frame,
             below: Vec::new(alloc),
             memory,
-            spare: Memory::new(alloc),
+            parameters: Vec::new(alloc),
             guide,
             alloc,
         })
@@ -142,49 +143,42 @@ impl Runner {
     }
 
     /// Makes the blocks of a function that is entered. The first one's number is the answer.
-    fn make_blocks(
-        &mut self,
-        program: &CProgram,
-        function: usize,
-        parameters: Memory,
-    ) -> Result<usize, AllocError>
+    fn make_blocks(&mut self, program: &CProgram, function: usize) -> Result<usize, AllocError>
         requires guide { IsGuide program.now self.old.guide }
-        requires parameters { length parameters ≡ length (parts_at program.now (Some function)).parameters }
+        requires parameters { length self.old.parameters.items ≡ length (parts_at program.now (Some function)).parameters }
         ensures base { IfOk result (λ base. base ≡ length self.old.memory) }
-        ensures made { OnOk result (self.new.memory ≡ self.old.memory ++ (parameters ++ fresh_blocks false program.now.declarations (parts_at program.now (Some function)).locals)) }
+        ensures made { OnOk result (self.new.memory ≡ self.old.memory ++ (self.old.parameters.items ++ fresh_blocks false program.now.declarations (parts_at program.now (Some function)).locals)) }
         ensures fits { OnOk result (length self.old.memory + (length (parts_at program.now (Some function)).parameters + length (parts_at program.now (Some function)).locals) < 2 ^ 63) }
         ensures rest { (self.new.frame ≡ self.old.frame) × (self.new.below.items ≡ self.old.below.items) }
         ensures guide { self.new.guide ≡ self.old.guide }
     {
         let base = self.memory.made();
         let text = written_text(program, Some(function));
-        let mut parameters = parameters;
-        self.memory.append(&mut parameters)?;
-        self.spare = parameters;
+        self.memory.append(&mut self.parameters)?;
         let declared = self.guide.declared(program);
         push_fresh(self.alloc, false, &declared, text.locals, &mut self.memory)?;
         Ok(base)
     }
 
-    /// Enters a function.
-    pub fn enter(&mut self, program: &CProgram, entry: Entry) -> Result<Done, Halt>
+    /// Enters a function, which has the blocks of its parameters.
+    pub fn enter(
+        &mut self,
+        program: &CProgram,
+        function: usize,
+        target: Target,
+    ) -> Result<Done, Halt>
         requires fits { FitsFrames program.now self.old }
         requires small { self.old.frame.spot.at + 1 < 2 ^ 64 }
-        requires entry { IsEntry program.now entry }
+        requires entry { IsEntry program.now (entry_with function target self.old.parameters.items) }
         ensures act { (input output calls : List ℕ) → Acts program.now self.new input output calls result
             (Onward (entered_state program.now (state_of program.now self.old input output calls)
-            (todo_at (body_at program.now self.old.frame) self.old.frame.spot.outer.items (self.old.frame.spot.at + 1)) (entered_of entry))) }
+            (todo_at (body_at program.now self.old.frame) self.old.frame.spot.outer.items (self.old.frame.spot.at + 1)) (entered_of (entry_with function target self.old.parameters.items)))) }
         ensures fits { OnOk result (FitsFrames program.now self.new) }
     {
-        let Entry {
-            function,
-            target,
-            parameters,
-        } = entry;
         let Some(reach) = function.checked_add(1) else {
             return Err(Halt::Memory);
         };
-        let base = self.make_blocks(program, function, parameters)?;
+        let base = self.make_blocks(program, function)?;
         let frame = Frame {
             function: Some(function),
             reach,
@@ -213,7 +207,13 @@ impl Runner {
         ensures fits { OnOk result (FitsFrames program.now self.new) }
     {
         let entry = self.entry(program, into, who, arguments)?;
-        self.enter(program, entry)
+        let Entry {
+            function,
+            target,
+            parameters,
+        } = entry;
+        self.parameters = parameters.into_vec();
+        self.enter(program, function, target)
     }
 
     // ---- the end of a function
@@ -254,6 +254,7 @@ impl Runner {
         forget_variables(&mut self.memory, first, text.parameters);
         let second = first + text.parameters.len();
         forget_variables(&mut self.memory, second, text.locals);
+        self.memory.count_gone(first);
     }
 
     /// The function ends, and the one below goes on.

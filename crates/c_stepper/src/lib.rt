@@ -13,6 +13,7 @@ mod machine;
 mod names;
 mod quick;
 mod quick_call;
+mod quick_change;
 mod quick_return;
 mod resolved;
 mod runner;

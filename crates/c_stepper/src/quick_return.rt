@@ -1,5 +1,5 @@
 //! Answers that are numbers, to variables of `int64_t`.
-ghost use Rattle.std.specs.Prelude.{◌≡◌, ◌<◌, ℕ, List, [], Some, Ok, true, false, IfSome, OnOk};
+ghost use Rattle.std.specs.Prelude.{◌≡◌, ◌<◌, ℕ, List, [], Some, Ok, true, false, IfSome};
 ghost use Rattle.c_tree.specs.Tree as t;
 ghost use Rattle.c_meaning.specs.Types.{Plain};
 ghost use Rattle.c_meaning.specs.States.{Into};
@@ -7,32 +7,12 @@ ghost use Rattle.c_meaning.specs.Steps.{names_from, CStep};
 ghost use Rattle.c_evaluation.specs.Types.{object_of};
 ghost use Rattle.c_stepper.specs.Runners.{target_of as meant, parts_at, variables_at, state_of, FitsFrame, FitsFrames, Acts};
 ghost use Rattle.c_stepper.specs.Quick.{ReadsNot};
-ghost use Rattle.c_stepper.specs.QuickCalls.{Leaps};
 ghost use Rattle.c_stepper.specs.QuickReturns.{GivesNumber, LeavesNumber};
 
 use crate::frames::{last_frame, result_of};
-use crate::guide::Guide;
-use crate::quick::node_here;
-use crate::resolved::Resolved;
 use crate::runner::{Done, Frame, Runner, Target};
-use c_cells::halt::Halt;
-use c_cells::memory::Memory;
-use c_evaluation::numbers::evaluated;
 use c_evaluation::types::{Layer, Object};
 use c_tree::program::CProgram;
-
-/// The number that the `return` that comes next gives, where numbers alone say it.
-fn number_given(frame: &Frame, memory: &Memory, guide: &Guide) -> Option<i64>
-    ensures { IfSome result (λ z. GivesNumber guide.now frame.now memory.now z) }
-{
-    match node_here(guide, frame) {
-        None => None,
-        Some(node) => match &node.resolved {
-            Resolved::Give(number) => evaluated(memory, frame.base, number),
-            _ => None,
-        },
-    }
-}
 
 fn is_int(of: Object) -> bool
     ensures { result ≡ true → object_of of.entry ≡ t.Int }
@@ -95,10 +75,11 @@ impl Runner {
         }
     }
 
-    /// The `return` that comes next, where numbers alone say what it does. Where it is not done so,
+    /// The function gives the number of the `return` that comes next. Where it is not done so,
     /// nothing changes, and the answer is false.
-    fn quick_return(&mut self, program: &CProgram) -> bool
+    pub fn give_number(&mut self, program: &CProgram, z: i64) -> bool
         requires fits { FitsFrames program.now self.old }
+        requires gives { GivesNumber self.old.guide self.old.frame self.old.memory z }
         ensures act { result ≡ true → (input output calls : List ℕ) → Acts program.now self.new input output calls (Ok Done.Going) (CStep program.now (state_of program.now self.old input output calls)) }
         ensures reads_not { result ≡ true → ReadsNot self.old.guide self.old.frame }
         ensures fits { result ≡ true → FitsFrames program.now self.new }
@@ -107,25 +88,9 @@ impl Runner {
         if !gives_int(program, self.frame.function) {
             return false;
         }
-        let Some(number) = target_below(&self.frame) else {
-            return false;
-        };
-        match number_given(&self.frame, &self.memory, &self.guide) {
-            Some(z) => self.leave_number(program, number, z),
+        match target_below(&self.frame) {
+            Some(number) => self.leave_number(program, number, z),
             None => false,
-        }
-    }
-
-    /// The call or the `return` that comes next, where numbers alone say what it does.
-    pub fn quick_change(&mut self, program: &CProgram) -> Result<Option<Done>, Halt>
-        requires fits { FitsFrames program.now self.old }
-        ensures leaps { Leaps program.now self.old self.new result }
-        ensures fits { OnOk result (FitsFrames program.now self.new) }
-    {
-        if self.quick_return(program) {
-            Ok(Some(Done::Going))
-        } else {
-            self.quick_call(program)
         }
     }
 }

@@ -17,6 +17,7 @@ use c_cells::Path;
 use c_cells::fresh::fresh_block;
 use c_cells::halt::Halt;
 use c_cells::memory::Memory;
+use c_cells::slot::Slot;
 use c_evaluation::scope::Scope;
 use c_evaluation::store::{Store, assigned, found, freed, got, malloced, put, test};
 use c_meaning::StuckKind;
@@ -72,8 +73,8 @@ pub struct Runner {
     pub frame: Frame,
     pub below: Vec<Frame>,
     pub memory: Memory,
-    /// Room for the parameters of the next call.
-    pub spare: Memory,
+    /// The blocks of the parameters of the function that is entered next.
+    pub parameters: Vec<Slot>,
     pub guide: Guide,
     pub alloc: Global,
 }

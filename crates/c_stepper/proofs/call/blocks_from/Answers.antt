@@ -1,4 +1,4 @@
-use Rattle.std.proofs.Common.{◌≡◌, ◌+◌, ◌∙◌, ◌∷◌, [], Some, sym, ap, length, reverse, arith, List}
+use Rattle.std.proofs.Common.{◌≡◌, ◌+◌, ◌∙◌, ◌∷◌, ◌++◌, [], Option, Some, sym, ap, length, reverse, arith, List}
 use Rattle.std.proofs.lemmas.List.{length-append}
 use Rattle.std.specs.Prelude.{Bool, true, false}
 use Rattle.c_tree.specs.declared.program.CVariable.{CVariable}
@@ -31,8 +31,8 @@ returns-in_default-pop-clause-value c =
     let none : c.loop-rest.left ≡ [] = c.in_default-pop.ensures.0 in
     sym (too_few ds done q (tail_of rest)) ∙ ap (λ (l : List Value). with_blocks ds done (q ∷ tail_of rest) (reverse (values_of l))) (sym none) ∙ ap (λ (qs : List CVariable). with_blocks ds done qs (reverse (values_of c.loop-rest.left))) (sym split) ∙ c.loop-rest.invariant.same
 
-pub returns-in_err-parameter_block-clause-value : goal.returns-in_err-parameter_block-clause-value
-returns-in_err-parameter_block-clause-value c =
+pub returns-in_err-block-clause-value : goal.returns-in_err-block-clause-value
+returns-in_err-block-clause-value c =
     let ds = c.args.scope.now.program.now.declarations in
     let done : Blocks = c.loop-rest.blocks in
     let rest = c.loop-rest.rest.now in
@@ -40,7 +40,7 @@ returns-in_err-parameter_block-clause-value c =
     let x = c.in-Some.value in
     let split : rest ≡ q ∷ tail_of rest = cons_of rest q (omega arith) c.first-item.is in
     let popped : reverse (values_of c.loop-rest.left) ≡ value_of x ∷ reverse (values_of c.pop.new.self) = ap (λ (l : List Value). reverse (values_of l)) c.in-Some.ensures ∙ values_pop c.pop.new.self x in
-    exit_by (λ (b : Block). b) (λ (b : Blocks). b) c.in_err-parameter_block.field-0.0 c.from_residual.result (parameter_block ds q (value_of x)) (parameter_blocks ds c.args.parameters.now (reverse (values_of c.args.values))) c.from_residual.ensures.1 c.in_err-parameter_block.ensures
+    exit_by (λ (b : Block). b) (λ (b : Blocks). b) c.in_err-block.field-0.0 c.from_residual.result (parameter_block ds q (value_of x)) (parameter_blocks ds c.args.parameters.now (reverse (values_of c.args.values))) c.from_residual.ensures.1 c.in_err-block.ensures
     (λ kind h. block_none ds done q (tail_of rest) (value_of x) (reverse (values_of c.pop.new.self)) kind h
     ∙ ap (λ (xs : List w.Value). with_blocks ds done (q ∷ tail_of rest) xs) (sym popped) ∙ ap (λ (qs : List CVariable). with_blocks ds done qs (reverse (values_of c.loop-rest.left))) (sym split) ∙ c.loop-rest.invariant.same)
 
@@ -51,16 +51,17 @@ loop-rest-preserved c =
     let rest = c.loop-rest.rest.now in
     let q = c.first-item.result in
     let x = c.in-Some.value in
-    let b : Block = c.in_ok-parameter_block.field-0 in
+    let b : Block = c.in_ok-block.block in
     let left = reverse (values_of c.pop.new.self) in
+    let pushed : c.push.new.self ≡ done ++ Some b ∷ [] = c.in_ok-push.ensures.ok ∙ ap (λ (o : Option Block). done ++ o ∷ []) c.in_ok-new.ensures in
     let split : rest ≡ q ∷ tail_of rest = cons_of rest q (omega arith) c.first-item.is in
     let popped : reverse (values_of c.loop-rest.left) ≡ value_of x ∷ left = ap (λ (l : List Value). reverse (values_of l)) c.in-Some.ensures ∙ values_pop c.pop.new.self x in
     record {
-      same = ap (λ (bs : Blocks). with_blocks ds bs (tail_of rest) left) c.in_ok-push.ensures
-          ∙ sym (block_next ds done q (tail_of rest) (value_of x) left b c.in_ok-parameter_block.ensures)
+      same = ap (λ (bs : Blocks). with_blocks ds bs (tail_of rest) left) pushed
+          ∙ sym (block_next ds done q (tail_of rest) (value_of x) left b c.in_ok-block.ensures)
           ∙ ap (λ (xs : List w.Value). with_blocks ds done (q ∷ tail_of rest) xs) (sym popped) ∙ ap (λ (qs : List CVariable). with_blocks ds done qs (reverse (values_of c.loop-rest.left))) (sym split) ∙ c.loop-rest.invariant.same;
       length =
-          let more : length c.push.new.self ≡ length done + 1 = ap length c.in_ok-push.ensures ∙ length-append done (Some b ∷ []) in
+          let more : length c.push.new.self ≡ length done + 1 = ap length pushed ∙ length-append done (Some b ∷ []) in
           let fewer = length_of rest q (tail_of rest) split in
           omega (arith, more, fewer, c.loop-rest.invariant.length);
     }

@@ -13,12 +13,12 @@ pub returns-clause-act : goal.returns-clause-act
 returns-clause-act c = λ input output calls.
     let p = c.args.program.now in
     let old = c.args.self.now in
-    let n = c.args.entry.function in
-    let target = target_of c.args.entry.target in
-    let blocks : Blocks = c.args.entry.parameters in
+    let n = c.args.function in
+    let target = target_of c.args.target in
+    let blocks : Blocks = c.args.self.now.parameters.items in
     let caller = c.replace-caller.result in
     let rest = todo_at (body_at p old.frame) old.frame.spot.outer.items (old.frame.spot.at + 1) in
-    let new : Runner = record { frame = c.replace-caller.new.dest; below = c.push_frame.new.below; memory = c.make_blocks.new.self.memory; spare = c.make_blocks.new.self.spare; guide = c.make_blocks.new.self.guide; alloc = c.make_blocks.new.self.alloc } in
+    let new : Runner = record { frame = c.replace-caller.new.dest; below = c.push_frame.new.below; memory = c.make_blocks.new.self.memory; parameters = c.make_blocks.new.self.parameters; guide = c.make_blocks.new.self.guide; alloc = c.make_blocks.new.self.alloc } in
     let after = c.replace-caller.ensures.after in
     let step : Frame → Frame = λ f. record f { spot = record { outer = f.spot.outer; at = f.spot.at + 1 } } in
     let reach : c.in-Some.reach ≡ n + 1 = omega (arith, c.in-Some.ensures) in
@@ -32,11 +32,11 @@ pub returns-clause-fits : goal.returns-clause-fits
 returns-clause-fits c =
     let p = c.args.program.now in
     let old = c.args.self.now in
-    let n = c.args.entry.function in
+    let n = c.args.function in
     let caller = c.replace-caller.result in
-    let new : Runner = record { frame = c.replace-caller.new.dest; below = c.push_frame.new.below; memory = c.make_blocks.new.self.memory; spare = c.make_blocks.new.self.spare; guide = c.make_blocks.new.self.guide; alloc = c.make_blocks.new.self.alloc } in
+    let new : Runner = record { frame = c.replace-caller.new.dest; below = c.push_frame.new.below; memory = c.make_blocks.new.self.memory; parameters = c.make_blocks.new.self.parameters; guide = c.make_blocks.new.self.guide; alloc = c.make_blocks.new.self.alloc } in
     let after = c.replace-caller.ensures.after in
     let step : Frame → Frame = λ f. record f { spot = record { outer = f.spot.outer; at = f.spot.at + 1 } } in
     let is : caller ≡ step old.frame = c.replace-caller.ensures.value ∙ ap step c.in_ok-base.ensures.rest.0 in
-    fits_begun p old new caller n (target_of c.args.entry.target) c.args.entry.parameters c.requires.fits (ap (λ (f : Frame). f.function) after) (ap (λ (f : Frame). f.base) after ∙ c.in_ok-base.ensures.base) c.in_ok-base.ensures.fits
+    fits_begun p old new caller n (target_of c.args.target) c.args.self.now.parameters.items c.requires.fits (ap (λ (f : Frame). f.function) after) (ap (λ (f : Frame). f.base) after ∙ c.in_ok-base.ensures.base) c.in_ok-base.ensures.fits
     (c.in_ok-push_frame.ensures ∙ ap (λ (l : List Frame). l ++ caller ∷ []) c.in_ok-base.ensures.rest.1) (subst (FitsFrame p) (sym is) c.requires.fits.frame) (subst (IsGuide p) (sym c.in_ok-base.ensures.guide) c.requires.fits.guide)
