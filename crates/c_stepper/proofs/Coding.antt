@@ -1,5 +1,5 @@
 -- The code of the statement that comes next.
-use Rattle.std.proofs.Common.{◌≡◌, ℕ, zero, suc, ◌+◌, ◌<◌, ◌≤◌, List, [], ◌∷◌, ◌++◌, Bool, true, false, Option, Some, None, length, Bor, refl, sym, ap, subst, ◌∙◌, arith}
+use Rattle.std.proofs.Common.{◌≡◌, ℕ, zero, suc, ◌+◌, ◌<◌, ◌≤◌, ◌^◌, List, [], ◌∷◌, ◌++◌, Bool, true, false, Option, Some, None, length, Bor, refl, sym, ap, subst, ◌∙◌, arith}
 use Rattle.std.proofs.lemmas.List.{length_push}
 use Rattle.std.specs.Prelude.{slice_get, if◌then◌else◌, IfSome}
 use Rattle.std.specs.Option.{option_copied}
@@ -8,6 +8,7 @@ use Rattle.c_tree.specs.Tree.{Statement, Body, list_of}
 use Rattle.c_tree.specs.declared.program.CVariable.{CVariable}
 use Rattle.c_tree.specs.declared.program.CFunction.{CFunction}
 use Rattle.c_tree.specs.declared.program.CProgram.{CProgram}
+use Rattle.c_meaning.specs.Cells.{Blocks}
 use Rattle.label_ways.specs.declared.level.Level.{Level}
 use Rattle.c_stepper.specs.declared.resolved.code.Code.{Code}
 use Rattle.c_stepper.specs.declared.resolved.code.Row.{Row}
@@ -22,7 +23,7 @@ use Rattle.c_stepper.specs.Spots.{branch_of, branch_at, list_in, after_of, todo_
 use Rattle.c_stepper.proofs.Todo.{todo_done}
 use Rattle.c_stepper.specs.Guides.{IsGuide}
 use Rattle.c_stepper.specs.Runners.{parts_of, variables_at, statement_at}
-use Rattle.c_stepper.specs.Quick.{IsCodeOf, IsRowAt, IsNodeAt, IsHere, Leaves, SameTodo}
+use Rattle.c_stepper.specs.Quick.{code_at, NextAt, Turns, IsCodeOf, IsRowAt, IsNodeAt, IsHere, Leaves, SameTodo}
 
 pub main_code : (all : ProgramCode) → IsCodeOf all None all.main
 main_code all = λ c h. h.main
@@ -196,6 +197,30 @@ pub node_found : (code : Code) (outer : List Level) (row : Row) (at : ℕ) (o : 
 node_found code outer row at None r h low = tt
 node_found code outer row at (Some node) r h low = at_row code outer row at node.now r h low
 
-pub here_found : (guide : Guide) (f : Frame) (code : Code) (o : Option (Bor Node)) → IsCodeOf guide.code f.function code → IfSome o (λ node. IsNodeAt code f.spot.outer.items f.spot.at node.now) → IfSome o (λ node. IsHere guide f node.now)
-here_found guide f code None own h = tt
-here_found guide f code (Some node) own h = is_here guide f code node.now own h
+-- ---- where the next node stands
+
+pub code_is : (all : ProgramCode) (function : Option ℕ) (code : Code) → code_at all function ≡ Some code → IsCodeOf all function code
+code_is all None code h = let same : all.main ≡ code = cc in subst (λ (x : Code). IsCodeOf all None x) same (main_code all)
+code_is all (Some n) code h = function_code all n code h
+
+next_at : (guide : Guide) (f : Frame) (code : Code) (row : Row) (k : ℕ) → code_at guide.code f.function ≡ Some code → IsRowAt code f.spot.outer.items row → k ≡ row.start + f.spot.at → f.spot.at < row.count → f.spot.at + 1 < 2 ^ 64 → NextAt guide f k
+next_at guide f code row k is at place within small = record {
+  node = λ other node same there.
+      let e : code ≡ other = let o : Some code ≡ Some other = sym is ∙ same in cc in
+      let found : slice_get code.nodes.items (row.start + f.spot.at) ≡ Some node = ap (λ j. slice_get code.nodes.items j) (sym place) ∙ ap (λ (x : Code). slice_get x.nodes.items k) e ∙ there in
+      is_here guide f code node (code_is guide.code f.function code is) (at_row code f.spot.outer.items row f.spot.at node at found within);
+  small = small;
+}
+
+-- the same after a statement that was not done
+pub next_stays : (guide : Guide) (f f' : Frame) (code : Code) (row : Row) (o : Option ℕ) (blocks blocks' : Blocks) → code_at guide.code f.function ≡ Some code → IsRowAt code f.spot.outer.items row → (IsCodeOf guide.code f.function code → Turns guide f f' blocks blocks' None)
+    → IfSome o (λ at. at ≡ row.start + f'.spot.at) → IfSome o (λ _. f'.spot.at < row.count) → IfSome o (λ _. f'.spot.at + 1 < 2 ^ 64) → IfSome o (NextAt guide f')
+next_stays guide f f' code row None blocks blocks' is at turns place within small = tt
+next_stays guide f f' code row (Some k) blocks blocks' is at turns place within small =
+    let stays = (turns (code_is guide.code f.function code is)).0 in
+    let function : code_at guide.code f'.function ≡ Some code = ap (λ (x : Frame). code_at guide.code x.function) stays.rest ∙ is in
+    next_at guide f' code row k function (subst (λ (outer : List Level). IsRowAt code outer row) (sym stays.outer) at) place within small
+
+pub node_next : (guide : Guide) (f : Frame) (code : Code) (k : ℕ) (o : Option (Bor Node)) → NextAt guide f k → code_at guide.code f.function ≡ Some code → option_copied o ≡ slice_get code.nodes.items k → IfSome o (λ node. IsHere guide f node.now)
+node_next guide f code k None next is there = tt
+node_next guide f code k (Some node) next is there = next.node code node.now is (sym there)

@@ -1,5 +1,5 @@
 -- Steps that reckon with numbers alone.
-use Rattle.std.specs.Prelude.{◌≡◌, ℕ, ◌+◌, ◌<◌, Bool, true, false, not, List, [], ◌∷◌, ◌++◌, Option, Some, None, slice_get}
+use Rattle.std.specs.Prelude.{◌≡◌, ℕ, ◌+◌, ◌<◌, ◌^◌, Bool, true, false, not, List, [], ◌∷◌, ◌++◌, Option, Some, None, slice_get}
 use Rattle.c_tree.specs.Tree.{Statement}
 use Rattle.c_tree.specs.declared.program.CVariable.{CVariable}
 use Rattle.c_tree.specs.declared.program.CProgram.{CProgram}
@@ -28,6 +28,11 @@ use Rattle.c_stepper.specs.Runners.{parts_at, body_at, variables_at, statement_a
 
 -- ---- the code of a statement
 
+-- the code of the function with a number, or of `main`
+abbrev pub code_at : ProgramCode → Option ℕ → Option Code
+code_at all None = Some all.main
+code_at all (Some n) = slice_get all.functions.items n
+
 -- in each program whose code this is, it is the code of the function
 abbrev pub IsCodeOf : ProgramCode → Option ℕ → Code → Type 0
 IsCodeOf all function code = (c : CProgram) → IsProgramCode c all → let p = parts_at c function in IsCode c (p.parameters ++ p.locals) code p.body
@@ -43,6 +48,11 @@ IsNodeAt code outer at node = (c : CProgram) (vars : List CVariable) (body : Lis
 -- in each program whose guide this is, a statement comes next, and the node is its
 abbrev pub IsHere : Guide → Frame → Node → Type 0
 IsHere guide f node = (c : CProgram) → IsGuide c guide → (s : Statement) × (statement_at c f ≡ Some s) × IsResolved c (variables_at c f) node.resolved s
+
+-- the node that stands there among those of the function is that of the statement that comes next
+pub record NextAt (guide : Guide) (f : Frame) (k : ℕ) : Type 0 where
+  pub node : (code : Code) (node : Node) → code_at guide.code f.function ≡ Some code → slice_get code.nodes.items k ≡ Some node → IsHere guide f node
+  pub small : f.spot.at + 1 < 2 ^ 64
 
 -- ---- lists that are done
 

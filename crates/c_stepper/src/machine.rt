@@ -6,12 +6,12 @@ ghost use Rattle.p2c_outside.specs.Counts.{Rose};
 ghost use Rattle.p2c_outside.specs.Told.{Gains, IsEmpty};
 ghost use Rattle.held_bytes.specs.Written.{GainsPart};
 ghost use Rattle.held_bytes.specs.Held.{bytes_in, IsDry};
-ghost use Rattle.c_stepper.specs.Quick.{ReadsNot};
+ghost use Rattle.c_stepper.specs.Quick.{NextAt, ReadsNot};
 ghost use Rattle.c_stepper.specs.Runners.{FitsFrames, IsSettled, statement_at, reads_in, reads_here, Acts};
 ghost use Rattle.c_stepper.specs.Machines.{stood, IsFor, Begins, StandsAs, Dashes, Steps, Takes, Closes, Writes, IsOver, SameBut, PutFaults, TakeFaults, RunFaults, Ran, TakesFew, HasStatus, ended_by};
 
 use crate::act::reads;
-use crate::quick::quick_steps;
+use crate::quick::{Dashed, quick_steps};
 use crate::runner::{Done, Runner};
 use c_cells::halt::Halt;
 use c_meaning::StuckKind;
@@ -311,28 +311,36 @@ impl Machine {
         }
     }
 
-    /// Steps of which numbers alone say what they do, at most so many. The answer is how many.
-    fn dash(&mut self, program: &CProgram, most: u64) -> u64
+    /// Steps of which numbers alone say what they do, at most so many.
+    fn dash(&mut self, program: &CProgram, most: u64) -> Dashed
         requires is_for { IsFor program.now self.old }
         requires going { self.old.over ≡ None }
         requires few { self.old.taken + most < 2 ^ 64 }
-        ensures dashes { Dashes program.now self.old self.new result }
+        ensures dashes { Dashes program.now self.old self.new result.taken }
+        ensures here { IfSome result.here (NextAt self.new.runner.guide self.new.runner.frame) }
         ensures is_for { IsFor program.now self.new }
-        ensures most { result ≤ most }
+        ensures most { result.taken ≤ most }
     {
-        let taken = quick_steps(
+        let dashed = quick_steps(
             &mut self.runner.frame,
             &mut self.runner.memory,
             &self.runner.guide,
             most,
         );
-        self.taken += taken;
-        taken
+        self.taken += dashed.taken;
+        dashed
     }
 
-    /// The call or the `return` that comes next, where numbers alone say what it does.
-    fn leap<O: Sink>(&mut self, program: &CProgram, out: &mut O) -> Option<Stepped>
+    /// The call or the `return` that comes next, whose node stands here, where numbers alone say what
+    /// it does.
+    fn leap<O: Sink>(
+        &mut self,
+        program: &CProgram,
+        here: usize,
+        out: &mut O,
+    ) -> Option<Stepped>
         requires is_for { IsFor program.now self.old }
+        requires here { NextAt self.old.runner.guide self.old.runner.frame here }
         requires going { self.old.over ≡ None }
         requires few { self.old.taken + 1 < 2 ^ 64 }
         ensures step { IfSome result (λ stepped. (left output calls : List ℕ) → length calls ≡ self.old.calls
@@ -346,7 +354,7 @@ impl Machine {
         ensures no_input { result ≢ Some Stepped.InputFault }
         ensures none { result ≡ None → StandsAs program.now self.old self.new × (out.new ≡ out.old) }
     {
-        match self.runner.quick_change(program) {
+        match self.runner.quick_change(program, here) {
             Ok(Some(done)) => Some(self.after(done, out)),
             Ok(None) => None,
             Err(halt) => Some(self.halt(halt, out)),
@@ -384,14 +392,17 @@ impl Machine {
         }
     }
 
-    /// The next step: a call or a `return` by numbers alone, where they say it, else any statement.
+    /// The next step: a call or a `return` by numbers alone, where they say it and it is known where
+    /// the node of the statement stands, else any statement.
     fn next_step<I: Source, O: Sink>(
         &mut self,
         program: &CProgram,
+        here: Option<usize>,
         input: &mut I,
         out: &mut O,
     ) -> Stepped
         requires is_for { IsFor program.now self.old }
+        requires here { IfSome here (NextAt self.old.runner.guide self.old.runner.frame) }
         requires going { self.old.over ≡ None }
         requires few { self.old.taken + 1 < 2 ^ 64 }
         requires end { self.old.input.over ≡ true → IsEmpty (I.left input.old) }
@@ -407,7 +418,10 @@ impl Machine {
         ensures put_faults { PutFaults (O.faults out.old) (O.faults out.new) result }
         ensures take_faults { TakeFaults (I.faults input.old) (I.faults input.new) result }
     {
-        match self.leap(program, out) {
+        let Some(here) = here else {
+            return self.stepwise(program, input, out);
+        };
+        match self.leap(program, here, out) {
             Some(stepped) => stepped,
             None => self.stepwise(program, input, out),
         }
@@ -441,10 +455,11 @@ impl Machine {
         if let Some(answer) = self.over {
             return answer;
         }
-        if self.dash(program, 1) > 0 {
+        let dashed = self.dash(program, 1);
+        if dashed.taken > 0 {
             Stepped::Going
         } else {
-            self.next_step(program, input, out)
+            self.next_step(program, dashed.here, input, out)
         }
     }
 }
@@ -482,8 +497,9 @@ fn run_from<I: Source, O: Sink>(
     let mut machine = machine;
     let mut left = steps;
     while left > 0 {
-        left -= machine.dash(program, left - 1);
-        match machine.next_step(program, input, out) {
+        let dashed = machine.dash(program, left - 1);
+        left -= dashed.taken;
+        match machine.next_step(program, dashed.here, input, out) {
             Stepped::Going => {
                 left -= 1;
             }

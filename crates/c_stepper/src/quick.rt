@@ -1,7 +1,7 @@
 //! Steps that reckon with numbers alone, one after another.
 ghost use Rattle.std.specs.Prelude.{◌≡◌, ◌+◌, ◌<◌, ◌≤◌, ◌^◌, ◌++◌, ◌∷◌, [], true, false, Some, None, IfSome, MatchOption, slice_get, if◌then◌else◌};
 ghost use Rattle.std.specs.Option.{option_copied};
-ghost use Rattle.c_stepper.specs.Quick.{IsCodeOf, IsRowAt, IsNodeAt, IsHere, Leaves, SameTodo, GoesOn, Entering, StoreTakes, TestTakes, ChoiceTakes, Moves, Does, Turns, QuickSteps};
+ghost use Rattle.c_stepper.specs.Quick.{code_at, IsCodeOf, IsRowAt, IsNodeAt, IsHere, NextAt, Leaves, SameTodo, GoesOn, Entering, StoreTakes, TestTakes, ChoiceTakes, Moves, Does, Turns, QuickSteps};
 ghost use Rattle.c_stepper.specs.declared.guide.Guide.{Guide};
 
 use crate::guide::Guide;
@@ -23,7 +23,8 @@ fn code_in(codes: &[Code], number: usize) -> Option<&Code>
 
 /// The code of the function with a number, or of `main`.
 fn code_of(code: &ProgramCode, function: Option<usize>) -> Option<&Code>
-    ensures { IfSome result (λ found. IsCodeOf code.now function found.now) }
+    ensures code { IfSome result (λ found. IsCodeOf code.now function found.now) }
+    ensures same { option_copied result ≡ code_at code.now function }
 {
     match function {
         None => Some(&code.main),
@@ -38,15 +39,32 @@ fn branch_row(node: &Node, second: bool) -> Row
     if second { node.second } else { node.first }
 }
 
+/// Where the node at a place of a row stands.
+fn place_in(row: Row, place: usize) -> Option<usize>
+    ensures at { IfSome result (λ at. at ≡ row.start + place) }
+    ensures within { IfSome result (λ _. place < row.count) }
+    ensures small { IfSome result (λ _. place + 1 < 2 ^ 64) }
+{
+    if place < row.count {
+        row.start.checked_add(place)
+    } else {
+        None
+    }
+}
+
+/// The node that stands at a place.
+fn node_of(nodes: &[Node], at: usize) -> Option<&Node>
+    ensures { option_copied result ≡ slice_get nodes.now at }
+{
+    nodes.get(at)
+}
+
 /// The node at a place of a row.
 fn node_in(nodes: &[Node], row: Row, place: usize) -> Option<&Node>
     ensures node { IfSome result (λ node. slice_get nodes.now (row.start + place) ≡ Some node.now) }
     ensures within { IfSome result (λ _. place < row.count) }
 {
-    if place >= row.count {
-        return None;
-    }
-    match row.start.checked_add(place) {
+    match place_in(row, place) {
         Some(at) => nodes.get(at),
         None => None,
     }
@@ -80,14 +98,13 @@ fn node_at<'a>(code: &'a Code, outer: &[Level], at: usize) -> Option<&'a Node>
     }
 }
 
-/// The node of the statement that comes next, where there is one.
-#[tactic(auto, using(crate::proofs::Coding::is_here))]
-pub fn node_here<'a>(guide: &'a Guide, frame: &Frame) -> Option<&'a Node>
-    ensures node { IfSome result (λ node. IsHere guide.now frame.now node.now) }
-    ensures small { IfSome result (λ _. frame.now.spot.at + 1 < 2 ^ 64) }
+/// The node of the statement that comes next, by where it stands.
+pub fn node_here<'a>(guide: &'a Guide, frame: &Frame, here: usize) -> Option<&'a Node>
+    requires { NextAt guide.now frame.now here }
+    ensures { IfSome result (λ node. IsHere guide.now frame.now node.now) }
 {
     match code_of(&guide.code, frame.function) {
-        Some(code) => node_at(code, frame.spot.outer.as_slice(), frame.spot.at),
+        Some(code) => node_of(&code.nodes, here),
         None => None,
     }
 }
@@ -258,34 +275,48 @@ fn turn(code: &Code, row: Row, frame: &mut Frame, memory: &mut Memory) -> Option
     }
 }
 
+/// How many steps were taken, and where the node of the statement that comes next stands, where
+/// that was found.
+#[derive(Clone, Copy)]
+pub struct Dashed {
+    pub taken: u64,
+    pub here: Option<usize>,
+}
+
 /// As many steps as `quick_steps`, by the code of the function that runs.
-fn dash(code: &Code, frame: &mut Frame, memory: &mut Memory, most: u64) -> u64
-    ensures steps { (guide : Guide) → IsCodeOf guide.code frame.old.function code.now → QuickSteps result guide frame.old frame.new memory.old memory.new }
-    ensures most { result ≤ most }
+fn dash(code: &Code, frame: &mut Frame, memory: &mut Memory, most: u64) -> Dashed
+    ensures steps { (guide : Guide) → IsCodeOf guide.code frame.old.function code.now → QuickSteps result.taken guide frame.old frame.new memory.old memory.new }
+    ensures here { (guide : Guide) → code_at guide.code frame.old.function ≡ Some code.now → IfSome result.here (NextAt guide frame.new) }
+    ensures most { result.taken ≤ most }
 {
     let mut row = Row::empty();
     let mut taken = 0;
     while taken < most {
         let Some(here) = row_here(code, &mut frame.spot, row) else {
-            return taken;
+            return Dashed { taken, here: None };
         };
         let Some(next) = turn(code, here, frame, memory) else {
-            return taken;
+            let here = place_in(here, frame.spot.at);
+            return Dashed { taken, here };
         };
         row = next;
         taken += 1;
     }
-    taken
+    Dashed { taken, here: None }
 }
 
-/// Steps of which numbers alone say what they do, at most so many. The answer is how many were
-/// taken; the next statement may want more than that, or there is none.
-pub fn quick_steps(frame: &mut Frame, memory: &mut Memory, guide: &Guide, most: u64) -> u64
-    ensures steps { QuickSteps result guide.now frame.old frame.new memory.old memory.new }
-    ensures most { result ≤ most }
+/// Steps of which numbers alone say what they do, at most so many. Where they are fewer, the next
+/// statement wants more than that, or there is none.
+pub fn quick_steps(frame: &mut Frame, memory: &mut Memory, guide: &Guide, most: u64) -> Dashed
+    ensures steps { QuickSteps result.taken guide.now frame.old frame.new memory.old memory.new }
+    ensures here { IfSome result.here (NextAt guide.now frame.new) }
+    ensures most { result.taken ≤ most }
 {
     match code_of(&guide.code, frame.function) {
         Some(code) => dash(code, frame, memory, most),
-        None => 0,
+        None => Dashed {
+            taken: 0,
+            here: None,
+        },
     }
 }

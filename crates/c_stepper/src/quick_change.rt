@@ -2,6 +2,7 @@
 ghost use Rattle.std.specs.Prelude.{◌+◌, ◌<◌, ◌^◌, IfOk, OnOk};
 ghost use Rattle.c_stepper.specs.Runners.{FitsFrames};
 ghost use Rattle.c_stepper.specs.Calls.{entry_with};
+ghost use Rattle.c_stepper.specs.Quick.{NextAt};
 ghost use Rattle.c_stepper.specs.QuickCalls.{QuickEntry};
 ghost use Rattle.c_stepper.specs.QuickReturns.{GivesNumber};
 ghost use Rattle.c_stepper.specs.QuickChanges.{Changes, Leaps};
@@ -35,10 +36,12 @@ fn change_here(
     frame: &Frame,
     memory: &Memory,
     guide: &Guide,
+    here: usize,
 ) -> Result<Change, AllocError>
+    requires { NextAt guide.now frame.now here }
     ensures { IfOk result (Changes guide.now frame.now memory.now parameters.new.items) }
 {
-    let Some(node) = node_here(guide, frame) else {
+    let Some(node) = node_here(guide, frame, here) else {
         return Ok(Change::Other);
     };
     match &node.resolved {
@@ -89,14 +92,16 @@ impl Runner {
         }
     }
 
-    /// The call or the `return` that comes next, where numbers alone say what it does.
-    pub fn quick_change(&mut self, program: &CProgram) -> Result<Option<Done>, Halt>
+    /// The call or the `return` that comes next, whose node stands here, where numbers alone say what
+    /// it does.
+    pub fn quick_change(&mut self, program: &CProgram, here: usize) -> Result<Option<Done>, Halt>
         requires fits { FitsFrames program.now self.old }
+        requires here { NextAt self.old.guide self.old.frame here }
         ensures leaps { Leaps program.now self.old self.new result }
         ensures fits { OnOk result (FitsFrames program.now self.new) }
     {
         let frame = &self.frame;
-        match change_here(&mut self.parameters, frame, &self.memory, &self.guide)? {
+        match change_here(&mut self.parameters, frame, &self.memory, &self.guide, here)? {
             Change::Enter(function, target) => self.enter_quickly(program, function, target),
             Change::Give(z) => self.give_quickly(program, z),
             Change::Other => Ok(None),

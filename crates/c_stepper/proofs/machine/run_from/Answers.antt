@@ -27,10 +27,10 @@ pub loop-left-preserved : goal.loop-left-preserved
 loop-left-preserved g c =
     let p = c.args.program.now in
     let old = c.loop-left.machine in
-    let mid = c.dash-left.new.self in
+    let mid = c.dash-dashed.new.self in
     let new = c.next_step.new.self in
     let i = c.loop-left.invariant in
-    let d = c.dash-left.ensures.dashes in
+    let d = c.dash-dashed.ensures.dashes in
     let told = c.in-Going.ensures in
     let more : new.taken ≡ mid.taken + 1 = told.taken refl in
     let w = g.O.Sink.written c.args.out.now in
@@ -39,10 +39,10 @@ loop-left-preserved g c =
     record {
       is_for = told.is_for;
       going = told.over.going refl ∙ d.over ∙ i.going;
-      taken = omega (arith, more, d.taken, i.taken, c.loop-left-test.true, c.dash-left.ensures.most);
+      taken = omega (arith, more, d.taken, i.taken, c.loop-left-test.true, c.dash-dashed.ensures.most);
       end = told.end;
       along = λ bytes is.
-          along p bytes mid new left (g.I.Source.left c.next_step.new.input) w w1 (g.O.Sink.written c.next_step.new.out) s.Going (dashed_along p bytes old mid c.dash-left.result left w w1 (i.along bytes is) d) told.takes more refl;
+          along p bytes mid new left (g.I.Source.left c.next_step.new.input) w w1 (g.O.Sink.written c.next_step.new.out) s.Going (dashed_along p bytes old mid c.dash-dashed.result.taken left w w1 (i.along bytes is) d) told.takes more refl;
       no_input = told.take_faults.none (λ e. cc) ∙ i.no_input;
       no_output = told.put_faults.none (λ e. cc) ∙ i.no_output;
     }
@@ -51,10 +51,10 @@ pub returns-in_default : goal.returns-in_default
 returns-in_default g c =
     let p = c.args.program.now in
     let before = c.loop-left.machine in
-    let old = c.dash-left.new.self in
+    let old = c.dash-dashed.new.self in
     let new = c.next_step.new.self in
     let i = c.loop-left.invariant in
-    let d = c.dash-left.ensures.dashes in
+    let d = c.dash-dashed.ensures.dashes in
     let a = c.next_step.result in
     let told = c.next_step.ensures in
     let w = g.O.Sink.written c.args.out.now in
@@ -66,8 +66,8 @@ returns-in_default g c =
     let same = c.in_default.answer-is in
     let last : c.last_answer.result ≡ ended_by new.calls a = cc in
     let n : a ≢ s.Going = c.in_default.not-Going in
-    let within : old.taken + 1 ≤ c.args.steps = omega (arith, d.taken, i.taken, c.loop-left-test.true, c.dash-left.ensures.most) in
-    let stands : (bytes : List ℕ) → g.I.Source.left c.args.input.now ≡ Some bytes → Along p bytes old left0 w w1 = λ bytes is. dashed_along p bytes before old c.dash-left.result left0 w w1 (i.along bytes is) d in
+    let within : old.taken + 1 ≤ c.args.steps = omega (arith, d.taken, i.taken, c.loop-left-test.true, c.dash-dashed.ensures.most) in
+    let stands : (bytes : List ℕ) → g.I.Source.left c.args.input.now ≡ Some bytes → Along p bytes old left0 w w1 = λ bytes is. dashed_along p bytes before old c.dash-dashed.result.taken left0 w w1 (i.along bytes is) d in
     record {
       ran = λ bytes is.
           subst (λ (r : e.Ended). Ran p bytes left1 c.args.steps w w2 r) (sym last)

@@ -1,14 +1,10 @@
-use Rattle.std.proofs.Common.{List, Bor, subst}
-use Rattle.std.specs.Prelude.{IfSome}
-use Rattle.label_ways.specs.declared.level.Level.{Level}
+use Rattle.std.proofs.Common.{List, ap, sym, ◌∙◌}
+use Rattle.std.specs.Prelude.{slice_get}
+use Rattle.std.specs.Option.{option_copied}
 use Rattle.c_stepper.specs.declared.resolved.code.Node.{Node}
-use Rattle.c_stepper.specs.Quick.{IsNodeAt}
-use Rattle.c_stepper.proofs.Coding.{here_found}
+use Rattle.c_stepper.proofs.Coding.{node_next}
 use Rattle.c_stepper.proofs.quick.node_here.Goals as goal
 
-pub returns-in-Some-clause-node : goal.returns-in-Some-clause-node
-returns-in-Some-clause-node c =
-    let f = c.args.frame.now in
-    let code = c.in-Some.code.now in
-    here_found c.args.guide.now f code c.node_at.result c.in-Some.ensures
-    (subst (λ (outer : List Level). IfSome c.node_at.result (λ (node : Bor Node). IsNodeAt code outer f.spot.at node.now)) c.as_slice.ensures.value c.node_at.ensures.node)
+pub returns-in-Some : goal.returns-in-Some
+returns-in-Some c =
+    node_next c.args.guide.now c.args.frame.now c.in-Some.code.now c.args.here c.node_of.result c.requires (sym c.code_of.ensures.same ∙ ap option_copied c.in-Some.is) (c.node_of.ensures ∙ ap (λ (l : List Node). slice_get l c.args.here) c.deref.ensures.value)

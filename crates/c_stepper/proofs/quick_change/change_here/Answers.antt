@@ -13,4 +13,4 @@ returns-in-Some-2 c =
     let call = c.in-Call.call in
     let entry = entry_with call.function c.in-Some-2.target c.entering.new.parameters.items in
     let entering = subst (λ (o : Option Target). IfSome o (λ target. Entering f blocks call (entry_with call.function target c.entering.new.parameters.items))) c.in-Some-2.is c.in_ok-target-in-Call.ensures in
-    (enters c.args.guide.now f blocks c.in-Some.node.now call entry c.in-Some.ensures.node c.in-Call.is entering, c.in-Some.ensures.small)
+    (enters c.args.guide.now f blocks c.in-Some.node.now call entry c.in-Some.ensures c.in-Call.is entering, c.requires.small)

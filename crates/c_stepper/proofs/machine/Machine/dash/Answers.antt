@@ -7,7 +7,7 @@ returns-clause-dashes c =
     let p = c.args.program.now in
     let old = c.args.self.now in
     let guide = (c.requires.is_for.frames c.requires.going).guide in
-    let steps = c.quick_steps-taken.ensures.steps in
+    let steps = c.quick_steps-dashed.ensures.steps in
     record {
       runs = λ left output calls. steps.runs p old.runner (bytes_in old.input ++ left) output calls guide;
       reads_not = λ left output calls j st low is asks. steps.reads_not p old.runner (bytes_in old.input ++ left) output calls j st guide low is asks;
