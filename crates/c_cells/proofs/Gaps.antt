@@ -9,7 +9,7 @@ use Rattle.c_meaning.specs.States.{changed, store}
 use Rattle.c_cells.specs.declared.halt.Halt.{Halt}
 use Rattle.c_cells.specs.declared.halt.Halt.TheVariants.{Stuck, Memory}
 use Rattle.c_cells.specs.Halts.{Refuses}
-use Rattle.c_cells.specs.Slots.{HoldsInt, blocks_of, AllGone}
+use Rattle.c_cells.specs.Slots.{HoldsInt, blocks_of, removed, AllGone}
 use Rattle.c_cells.proofs.Blocks.{block_some, block_none, none_stays}
 
 -- ---- lists one after the other
@@ -151,6 +151,27 @@ module _ (low : Blocks) (gap : ℕ) (high : Blocks) where
   pub store_gap : (n : ℕ) (path : List ℕ) (tree : Tree) → length low ≤ n → n - length low < gap → store (blocks_of low gap high) n path tree ≡ Bad k.GoneUse
   unfolding store changed
   store_gap n path tree l h = ap (changed (blocks_of low gap high) n path tree) (at_gap n l h)
+
+gone_next : (k m : ℕ) (rest : Blocks) → m ≡ k + 1 → replicate k None ++ (None ∷ rest) ≡ replicate m None ++ rest
+gone_next zero zero rest h = absurd (omega (arith, h))
+gone_next zero (suc zero) rest h = refl
+gone_next zero (suc (suc m)) rest h = absurd (omega (arith, h))
+gone_next (suc k) zero rest h = absurd (omega (arith, h))
+gone_next (suc k) (suc m) rest h = ap (λ l. None ∷ l) (gone_next k m rest (omega (arith, h)))
+
+pub cleared : (low : Blocks) (gap : ℕ) (high : Blocks) (first count m : ℕ) → first ≡ length low + gap → count ≡ length high → m ≡ gap + count → removed first count (blocks_of low gap high) ≡ blocks_of low m []
+unfolding removed
+cleared low gap [] first zero m f c e = ap (λ k. blocks_of low k []) (omega (arith, e))
+cleared low gap [] first (suc count) m f c e = absurd (omega (arith, c))
+cleared low gap (o ∷ rest) first zero m f c e = absurd (omega (arith, c))
+cleared low gap (o ∷ rest) first (suc count) m f c e =
+    ap (removed (first + 1) count) (set_high low gap (o ∷ rest) first 0 None (omega (arith, f)) ∙ ap (λ l. low ++ l) (gone_next gap (gap + 1) rest refl))
+    ∙ cleared low (gap + 1) rest (first + 1) count m (omega (arith, f)) (omega (arith, c)) (omega (arith, e))
+
+pub removed_next : (first count : ℕ) (blocks : Blocks) → 0 < count → removed (first + 1) (count - 1) (slice_set blocks first None) ≡ removed first count blocks
+unfolding removed
+removed_next first zero blocks h = absurd (omega (arith, h))
+removed_next first (suc k) blocks h = let e : suc k - 1 ≡ k = omega arith in ap (λ j. removed (first + 1) j (slice_set blocks first None)) e
 
 pub sealed : (high : Blocks) → blocks_of high 0 [] ≡ blocks_of [] 0 high
 sealed high = without_more high

@@ -1,5 +1,5 @@
 -- The blocks of slots.
-use Rattle.std.specs.Prelude.{◌≡◌, ℕ, ℤ, false, List, [], ◌∷◌, ◌++◌, Option, Some, None, slice_get, replicate}
+use Rattle.std.specs.Prelude.{◌≡◌, ℕ, zero, suc, ◌+◌, ℤ, false, List, [], ◌∷◌, ◌++◌, Option, Some, None, slice_get, slice_set, replicate}
 use Rattle.c_tree.specs.Tree as t
 use Rattle.c_meaning.specs.declared.StuckKind.TheVariants as k
 use Rattle.c_meaning.specs.Cells.{Cell, Empty, Int, Tree, Leaf, Block, Blocks, with_part}
@@ -44,6 +44,11 @@ changed_block path new (Some b) = Got (Some (record b { tree = with_part path ne
 -- two lists of slots, and between them so many blocks that are gone
 abbrev pub blocks_of : Blocks → ℕ → Blocks → Blocks
 blocks_of low gap high = low ++ (replicate gap None ++ high)
+
+-- the blocks without so many, from the one with this number on
+unfoldable pub removed : (first count : ℕ) → Blocks → Blocks
+removed first zero blocks = blocks
+removed first (suc k) blocks = removed (first + 1) k (slice_set blocks first None)
 
 -- each block is gone
 abbrev pub AllGone : Blocks → Type 0

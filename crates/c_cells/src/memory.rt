@@ -5,7 +5,7 @@ ghost use Rattle.c_meaning.specs.Cells.{Leaf, Int, block_at};
 ghost use Rattle.c_meaning.specs.Answer.{Got};
 ghost use Rattle.c_meaning.specs.States.{store};
 ghost use Rattle.c_cells.specs.Halts.{Refuses};
-ghost use Rattle.c_cells.specs.Slots.{found_block, int_block, int_cell, HoldsInt, AllGone};
+ghost use Rattle.c_cells.specs.Slots.{found_block, int_block, int_cell, removed, HoldsInt, AllGone};
 
 use crate::halt::Halt;
 use crate::slot::{Found, Slot};
@@ -246,10 +246,43 @@ impl Memory {
         }
     }
 
+    /// Makes so many blocks be gone, from the one with this number on. Where they are the first ones
+    /// of the second list, and nothing of it is there any more, they are but counted, and the room
+    /// for their slots stays.
+    #[tactic(auto, using(crate::proofs::Gaps::cleared))]
+    pub fn remove_all(&mut self, first: usize, count: usize)
+        requires { first + count < 2 ^ 63 }
+        ensures { self.new ≡ removed first count self.old }
+    {
+        if self.low.len() + self.gap == first && self.high.len() == count {
+            self.gap += count;
+            self.high.clear();
+            return;
+        }
+        self.remove_each(first, count);
+        if count > 0 {
+            self.count_gone(first);
+        }
+    }
+
+    #[tactic(auto, using(crate::proofs::Gaps::removed_next), unfolding(crate::specs::Slots::removed))]
+    fn remove_each(&mut self, first: usize, count: usize)
+        requires { first + count < 2 ^ 63 }
+        ensures { self.new ≡ removed first count self.old }
+    {
+        let mut number = first;
+        let mut left = count;
+        while left > 0 {
+            self.remove(number);
+            number += 1;
+            left -= 1;
+        }
+    }
+
     /// Counts the blocks from this one to the last one, where they are all of the second list and
-    /// are gone. The room for their slots stays.
+    /// are gone.
     #[tactic(auto, using(crate::proofs::Gaps::counted))]
-    pub fn count_gone(&mut self, first: usize)
+    fn count_gone(&mut self, first: usize)
         ensures { self.new ≡ self.old }
     {
         if self.low.len() + self.gap == first && all_gone(&self.high) {

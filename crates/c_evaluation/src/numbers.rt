@@ -236,7 +236,7 @@ fn evaluated_pair(memory: &Memory, base: usize, op: CBinary, a: Operand, b: Oper
 
 /// The number of an expression, where it is found so.
 #[cycle(evaluated)]
-#[inline]
+#[inline(always)]
 pub fn evaluated(memory: &Memory, base: usize, number: &Number) -> Option<i64>
     ensures { IfSome result (λ z. Evaluates memory.now base number.now z) }
 {

@@ -1,5 +1,5 @@
 -- The end of a function.
-use Rattle.std.proofs.Common.{◌≡◌, ℕ, suc, ◌<◌, ◌+◌, List, [], ◌∷◌, ◌++◌, length, true, false, Option, None, Result, Ok, Err, refl, sym, ap, subst, ◌∙◌, arith}
+use Rattle.std.proofs.Common.{◌≡◌, ℕ, zero, suc, ◌<◌, ◌+◌, List, [], ◌∷◌, ◌++◌, length, true, false, Option, None, Result, Ok, Err, refl, sym, ap, subst, ◌∙◌, arith}
 use Rattle.c_tree.specs.declared.program.CVariable.{CVariable}
 use Rattle.std.specs.Prelude.{slice_set, ℤ, pos, negsuc, ◌<ℤ◌, nat_lt}
 use Rattle.std.proofs.lemmas.Int.{ints}
@@ -15,9 +15,10 @@ use Rattle.c_meaning.specs.Values.{Value, Typed, value_of, as_int}
 use Rattle.c_tree.specs.Tree.{Expr, Statement}
 use Rattle.c_tree.specs.declared.program.CProgram.{CProgram}
 use Rattle.c_meaning.specs.Evaluate.{View}
-use Rattle.c_meaning.specs.States.{Names, Frame, State, without}
+use Rattle.c_meaning.specs.States.{Frame, State, without}
 use Rattle.c_meaning.specs.Steps.{Next, Onward, Ended, Halted, next, with_blocks, answered, names_from, status_of, in_status, finish, leave_to, leave, leave_with, returned, do_statement}
 use Rattle.c_cells.specs.Forks.{forks}
+use Rattle.c_cells.specs.Slots.{removed}
 use Rattle.c_evaluation.proofs.Binary.{bind_got, bind_bad}
 use Rattle.std.specs.Result.{IsErrAnd}
 use Rattle.c_cells.specs.declared.halt.Halt.{Halt}
@@ -91,20 +92,13 @@ module _ (c : CProgram) (v : View) (st : State) (rest : List Statement) (a : Opt
 
 -- ---- the end of the variables
 
-names_append : (n : ℕ) (a b : List CVariable) → names_from n (a ++ b) ≡ names_from n a ++ names_from (n + length a) b
-unfolding names_from
-names_append n [] b = let e : n ≡ n + 0 = omega arith in ap (λ k. names_from k b) e
-names_append n (x ∷ a) b =
-    let e : n + 1 + length a ≡ n + suc (length a) = omega arith in
-    ap (λ l. (x.name, n) ∷ l) (names_append (n + 1) a b ∙ ap (λ k. names_from (n + 1) a ++ names_from k b) e)
-
-without_append : (a b : Names) (blocks : Blocks) → without (a ++ b) blocks ≡ without b (without a blocks)
-unfolding without
-without_append [] b blocks = refl
-without_append (x ∷ a) b blocks = without_append a b (slice_set blocks x.1 None)
-
-pub both_gone : (n : ℕ) (a b : List CVariable) (blocks : Blocks) → without (names_from (n + length a) b) (without (names_from n a) blocks) ≡ without (names_from n (a ++ b)) blocks
-both_gone n a b blocks = sym (ap (λ l. without l blocks) (names_append n a b) ∙ without_append (names_from n a) (names_from (n + length a) b) blocks)
+-- the blocks of variables are those that follow one another from the first one's on
+pub variables_gone : (vars : List CVariable) (first count : ℕ) (blocks : Blocks) → count ≡ length vars → removed first count blocks ≡ without (names_from first vars) blocks
+unfolding removed without names_from
+variables_gone [] first zero blocks h = refl
+variables_gone [] first (suc k) blocks h = absurd (omega (arith, h))
+variables_gone (x ∷ vars) first zero blocks h = absurd (omega (arith, h))
+variables_gone (x ∷ vars) first (suc k) blocks h = variables_gone vars (first + 1) k (slice_set blocks first None) (omega (arith, h))
 
 -- ---- stores
 

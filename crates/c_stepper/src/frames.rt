@@ -20,7 +20,7 @@ ghost use Rattle.c_stepper.specs.Leaving.{given_of, Answers};
 
 use crate::call::{Entry, entered};
 use crate::guide::Guide;
-use crate::leave::{Given, answer_stored, forget_variables, put_answer, returned, status_of};
+use crate::leave::{Given, answer_stored, put_answer, returned, status_of};
 use crate::runner::{Done, Frame, Runner, Target, written_text};
 use crate::spot::Spot;
 use c_cells::fresh::push_fresh;
@@ -161,6 +161,7 @@ impl Runner {
     }
 
     /// Enters a function, which has the blocks of its parameters.
+    #[inline(always)]
     pub fn enter(
         &mut self,
         program: &CProgram,
@@ -244,17 +245,14 @@ impl Runner {
     }
 
     /// Makes the blocks of the function that runs be gone.
-    #[tactic(auto, using(crate::proofs::Leaving::both_gone))]
+    #[inline(always)]
     pub fn forget_frame(&mut self, program: &CProgram)
         requires { FitsFrame program.now self.old.frame }
         ensures { self.new ≡ record self.old { memory = without (names_from self.old.frame.base (variables_at program.now self.old.frame)) self.old.memory } }
     {
         let text = written_text(program, self.frame.function);
-        let first = self.frame.base;
-        forget_variables(&mut self.memory, first, text.parameters);
-        let second = first + text.parameters.len();
-        forget_variables(&mut self.memory, second, text.locals);
-        self.memory.count_gone(first);
+        let count = text.parameters.len() + text.locals.len();
+        self.memory.remove_all(self.frame.base, count);
     }
 
     /// The function ends, and the one below goes on.

@@ -1,9 +1,8 @@
 //! The end of a function.
-ghost use Rattle.std.specs.Prelude.{◌≡◌, ◌<◌, ◌+◌, ◌^◌, length, IfOk, IfErr, OnOk};
+ghost use Rattle.std.specs.Prelude.{◌≡◌, IfOk, IfErr, OnOk};
 ghost use Rattle.std.specs.Option.{option_map};
 ghost use Rattle.c_meaning.specs.Cells.{Blocks};
 ghost use Rattle.c_meaning.specs.Answer.{Got};
-ghost use Rattle.c_meaning.specs.States as s;
 ghost use Rattle.c_meaning.specs.Steps as m;
 ghost use Rattle.c_meaning.specs.Values as w;
 ghost use Rattle.c_cells.specs.Halts.{Tells, Refuses};
@@ -27,7 +26,6 @@ use c_evaluation::types::{Object, PlaceType};
 use c_evaluation::value::{Value, as_int};
 use c_meaning::StuckKind;
 use c_tree::expr::CExpr;
-use c_tree::program::CVariable;
 use c_tree::types::CType;
 use std::alloc::{AllocError, Global};
 use tree_lists::Items;
@@ -167,23 +165,6 @@ pub fn put_answer(alloc: Global, memory: &mut Memory, store: Option<Store>) -> R
             memory.store(alloc, number, path.as_slice(), tree)?;
             Ok(())
         }
-    }
-}
-
-// ---- the end of the variables
-
-/// Makes the blocks of variables be gone, which begin at a number.
-#[tactic(auto, unfolding(c_meaning::specs::States::without, c_meaning::specs::Steps::names_from))]
-pub fn forget_variables(memory: &mut Memory, first: usize, variables: &[CVariable])
-    requires { first + length variables.now < 2 ^ 63 }
-    ensures { memory.new ≡ s.without (m.names_from first variables.now) memory.old }
-{
-    let mut number = first;
-    let mut rest = variables;
-    while let [_, after @ ..] = rest {
-        memory.remove(number);
-        number += 1;
-        rest = after;
     }
 }
 

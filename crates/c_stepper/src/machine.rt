@@ -159,6 +159,7 @@ impl Machine {
     }
 
     /// A step was taken.
+    #[inline(always)]
     fn after<O: Sink>(&mut self, done: Done, out: &mut O) -> Stepped
         requires counted { self.old.calls ≤ self.old.taken }
         requires few { self.old.taken + 1 < 2 ^ 64 }
