@@ -16,7 +16,7 @@ use Rattle.c_meaning.specs.Evaluate.{View, Named, value, place, variable, name_v
 use Rattle.c_meaning.specs.States.{Names, global_from, number_of, numbered, store, store_named, view}
 use Rattle.c_meaning.specs.Steps.{names_from, taken, put_root, put_value, assign}
 use Rattle.c_cells.specs.Slots.{int_block, HoldsInt}
-use Rattle.c_evaluation.specs.Numbers.{place_number, NamesVariable, IsOperand, Resolves, Holds, Evaluates, EvaluatesPair, EvaluatesTwo, Puts, Chooses, NamesNone}
+use Rattle.c_evaluation.specs.Numbers.{place_number, NamesVariable, Resolves, Holds, Evaluates, EvaluatesPair, EvaluatesTwo, Puts, Chooses, NamesNone}
 use Rattle.c_evaluation.specs.Stores.{chosen, truth_in}
 use Rattle.c_evaluation.specs.Evaluations.{name_in}
 use Rattle.c_evaluation.specs.declared.numbers.Variable.{Variable}

@@ -1,5 +1,5 @@
 -- The end of a function.
-use Rattle.std.proofs.Common.{◌≡◌, ℕ, zero, suc, ◌<◌, ◌+◌, List, [], ◌∷◌, ◌++◌, length, true, false, Option, None, Result, Ok, Err, refl, sym, ap, subst, ◌∙◌, arith}
+use Rattle.std.proofs.Common.{◌≡◌, ℕ, zero, suc, ◌<◌, ◌+◌, List, [], ◌∷◌, length, true, false, Option, None, Result, Ok, Err, refl, sym, ap, subst, ◌∙◌, arith}
 use Rattle.c_tree.specs.declared.program.CVariable.{CVariable}
 use Rattle.std.specs.Prelude.{slice_set, ℤ, pos, negsuc, ◌<ℤ◌, nat_lt}
 use Rattle.std.proofs.lemmas.Int.{ints}

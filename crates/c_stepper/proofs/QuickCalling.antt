@@ -1,8 +1,8 @@
 -- What quick calls do.
-use Rattle.std.proofs.Common.{◌≡◌, ℕ, ◌+◌, ◌<◌, List, [], ◌∷◌, ◌++◌, length, map, Option, Some, None, false, Result, Ok, Err, refl, sym, ap, subst, ◌∙◌, append_assoc, arith}
+use Rattle.std.proofs.Common.{◌≡◌, ℕ, ◌+◌, ◌<◌, List, [], ◌∷◌, ◌++◌, length, map, Option, Some, None, false, Result, refl, sym, ap, subst, ◌∙◌, append_assoc, arith}
 use Rattle.std.proofs.lemmas.List.{append-nil}
 use Rattle.std.proofs.lemmas.Option.{slice_get_within}
-use Rattle.std.specs.Prelude.{ℤ, IfSome, IfOk}
+use Rattle.std.specs.Prelude.{ℤ}
 use Rattle.c_tree.specs.Tree as t
 use Rattle.c_tree.specs.Tree.{ObjectType, Expr, Place, Statement}
 use Rattle.c_tree.specs.declared.program.CVariable.{CVariable}

@@ -29,7 +29,7 @@ use Rattle.c_stepper.specs.declared.runner.Runner.{Runner}
 use Rattle.c_stepper.specs.declared.runner.Done.TheVariants as d
 use Rattle.c_stepper.specs.Codes.{IsResolved}
 use Rattle.c_stepper.specs.Spots.{todo_at}
-use Rattle.c_stepper.specs.Runners.{target_of, parts_at, variables_at, body_at, frame_of, frames_of, state_of, runner_view, statement_at, FitsFrame, FitsFrames, Acts}
+use Rattle.c_stepper.specs.Runners.{target_of, parts_at, variables_at, body_at, frame_of, frames_of, state_of, runner_view, FitsFrame, FitsFrames, Acts}
 use Rattle.c_stepper.specs.Quick.{IsHere, ReadsNot}
 use Rattle.c_stepper.specs.QuickReturns.{GivesNumber, LeavesNumber}
 use Rattle.c_stepper.proofs.Entering.{frames_push}

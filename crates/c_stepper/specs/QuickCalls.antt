@@ -1,5 +1,5 @@
 -- Calls that reckon with numbers alone.
-use Rattle.std.specs.Prelude.{◌≡◌, ℕ, ℤ, ◌<◌, List, [], ◌∷◌, Option, Some, None, Result, Ok, Err}
+use Rattle.std.specs.Prelude.{◌≡◌, ℕ, ℤ, ◌<◌, List, [], ◌∷◌, Option, Some, None}
 use Rattle.c_tree.specs.Tree as t
 use Rattle.c_tree.specs.Tree.{Expr, Place}
 use Rattle.c_tree.specs.declared.statement.CCallee.{CCallee}
@@ -9,7 +9,7 @@ use Rattle.c_meaning.specs.Types.{Plain}
 use Rattle.c_meaning.specs.Answer.{Got}
 use Rattle.c_meaning.specs.States as m
 use Rattle.c_meaning.specs.States.{view}
-use Rattle.c_meaning.specs.Steps.{names_from, CStep}
+use Rattle.c_meaning.specs.Steps.{names_from}
 use Rattle.c_cells.specs.Slots.{int_block, HoldsInt}
 use Rattle.c_evaluation.specs.declared.numbers.Variable.{Variable}
 use Rattle.c_evaluation.specs.declared.numbers.Number.{Number}
@@ -21,10 +21,6 @@ use Rattle.c_stepper.specs.declared.runner.Frame.{Frame}
 use Rattle.c_stepper.specs.Guides.{IsGuide}
 use Rattle.c_stepper.specs.Runners as r
 use Rattle.c_stepper.specs.Runners.{variables_at, statement_at, state_of, Acts}
-use Rattle.c_stepper.specs.declared.runner.Runner.{Runner}
-use Rattle.c_stepper.specs.declared.runner.Done.{Done}
-use Rattle.c_cells.specs.declared.halt.Halt.{Halt}
-use Rattle.c_stepper.specs.Quick.{ReadsNot}
 use Rattle.c_stepper.specs.Calls.{IsEntry, entered_of, entered}
 
 -- the place for an answer is the block of the variable, which is there, or there is none

@@ -334,12 +334,7 @@ impl Machine {
 
     /// The call or the `return` that comes next, whose node stands here, where numbers alone say what
     /// it does.
-    fn leap<O: Sink>(
-        &mut self,
-        program: &CProgram,
-        here: usize,
-        out: &mut O,
-    ) -> Option<Stepped>
+    fn leap<O: Sink>(&mut self, program: &CProgram, here: usize, out: &mut O) -> Option<Stepped>
         requires is_for { IsFor program.now self.old }
         requires here { NextAt self.old.runner.guide self.old.runner.frame here }
         requires going { self.old.over ≡ None }

@@ -1,4 +1,4 @@
-use Rattle.std.proofs.Common.{◌≡◌, subst, sym, w64, to_z, of_z, arith}
+use Rattle.std.proofs.Common.{◌≡◌, subst, w64, to_z, of_z, arith}
 use Rattle.std.proofs.lemmas.Int.{ints}
 use Rattle.std.specs.Prelude.{ℤ, IfSome}
 use Rattle.c_evaluation.specs.declared.numbers.Number.{Number}
