@@ -1,7 +1,7 @@
 #!/usr/bin/env bash
 # Times the runner of C texts beside Lua 5.4 and `gcc -O0`, on programs that are made in a temporary folder. Each time is
 # the best of three runs. Wanted: a loop with two variables and calls of a small function in at most 4 times what Lua
-# takes, and the same loop and calls as fast below 10,000 functions and 10,000 globals.
+# takes, and the same loop and calls as fast below 10,000 functions and 10,000 globals, and under 10,000 calls.
 set -eu
 top=$(cd "$(dirname "$0")/.." && pwd)
 . "$top/bench/best.sh"
@@ -27,12 +27,22 @@ main_of() {
   printf 'int main(void) {\n  int64_t i;\n%s  i = INT64_C(0);\n  while ((i < INT64_C(%s))) {\n%s  }\n  return INT64_C(0);\n}\n' "$1" "$turns" "$2"
 }
 
+# a function that calls itself 10,000 times and then has such a loop over two variables of its own
+deep_of() {
+  printf 'int64_t deep(int64_t n) {\n  int64_t i;\n  int64_t s;\n  i = INT64_C(0);\n  s = INT64_C(0);\n'
+  printf '  if ((n > INT64_C(0))) {\n    i = deep((n - INT64_C(1)));\n    return i;\n  }\n'
+  printf '  while ((i < INT64_C(%s))) {\n%s  }\n  return s;\n}\n' "$turns" "$1"
+  printf 'int main(void) {\n  int64_t i;\n  i = deep(INT64_C(10000));\n  return INT64_C(0);\n}\n'
+}
+
 sums=$'    s = (s + i);\n    i = (i + INT64_C(1));\n'
 { head_of; main_of $'  int64_t s;\n' "$sums" | sed 's/^  i = INT64_C(0);/  s = INT64_C(0);\n&/'; } > "$folder/loop.c"
 { head_of; many 1; main_of '' $'    i = f_1(i);\n'; } > "$folder/calls.c"
 { head_of; many 10000; main_of '' $'    g_10000 = (g_10000 + i);\n    i = (i + INT64_C(1));\n'; } > "$folder/loop_many.c"
 { head_of; many 1; main_of '' $'    g_1 = (g_1 + i);\n    i = (i + INT64_C(1));\n'; } > "$folder/loop_one.c"
 { head_of; many 10000; main_of '' $'    i = f_10000(i);\n'; } > "$folder/calls_many.c"
+{ head_of; many 1; deep_of "$sums"; } > "$folder/loop_deep.c"
+{ head_of; many 1; deep_of $'    i = f_1(i);\n'; } > "$folder/calls_deep.c"
 cat > "$folder/loop.lua" <<LUA
 local i = 0
 local s = 0
@@ -65,7 +75,7 @@ for name in loop calls; do
     echo "$name in Lua: $peer us; we take $((ours * 10 / peer)) tenths of it"
   fi
 done
-for name in loop_one loop_many calls_many; do
+for name in loop_one loop_many loop_deep calls_many calls_deep; do
   none=$(best 3 "$runner" "$folder/$name.c" 1)
   all=$(best 3 "$runner" "$folder/$name.c" "$steps")
   echo "$name, $turns turns: $((all - none)) us, beside $none us to read and begin"

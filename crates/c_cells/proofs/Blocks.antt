@@ -1,12 +1,12 @@
 -- A block by its number.
-use Rattle.std.proofs.Common.{◌≡◌, ℕ, zero, suc, ◌≤◌, List, [], ◌∷◌, length, Option, Some, None, refl, sym, ap, ◌∙◌, arith}
+use Rattle.std.proofs.Common.{◌≡◌, ℕ, zero, suc, ◌+◌, ◌-◌, ◌<◌, ◌≤◌, List, [], ◌∷◌, length, Option, Some, None, refl, sym, ap, ◌∙◌, arith}
 use Rattle.std.specs.Prelude.{ℤ, slice_get, slice_set}
 use Rattle.c_meaning.specs.declared.StuckKind.{StuckKind}
 use Rattle.c_meaning.specs.Cells.{Tree, Leaf, Int, Block, Blocks, joined_option, block_at, with_part}
 use Rattle.c_meaning.specs.Answer.{Got, Bad}
 use Rattle.c_meaning.specs.States.{changed, store}
 use Rattle.c_meaning.specs.declared.StuckKind.TheVariants as k
-use Rattle.c_cells.specs.Slots.{int_block, HoldsInt, changed_block}
+use Rattle.c_cells.specs.Slots.{int_block, HoldsInt, removed, changed_block}
 
 pub block_some : (blocks : Blocks) (n : ℕ) (o : Option Block) → slice_get blocks n ≡ Some o → block_at blocks n ≡ o
 unfolding block_at joined_option
@@ -59,3 +59,8 @@ module _ (blocks : Blocks) (n : ℕ) (path : List ℕ) (tree : Tree) where
 pub set_int : (blocks : Blocks) (n : ℕ) (z : ℤ) → HoldsInt blocks n → store blocks n [] (Leaf (Int z)) ≡ Got (slice_set blocks n (Some (int_block (Int z))))
 unfolding store changed with_part
 set_int blocks n z h = ap (changed blocks n [] (Leaf (Int z))) (block_some blocks n (Some (int_block h.0)) h.1)
+
+pub removed_next : (first count : ℕ) (blocks : Blocks) → 0 < count → removed (first + 1) (count - 1) (slice_set blocks first None) ≡ removed first count blocks
+unfolding removed
+removed_next first zero blocks h = absurd (omega (arith, h))
+removed_next first (suc k) blocks h = let e : suc k - 1 ≡ k = omega arith in ap (λ j. removed (first + 1) j (slice_set blocks first None)) e

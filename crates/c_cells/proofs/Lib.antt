@@ -3,4 +3,4 @@ pub mod Blocks
 pub mod FreshTrees
 pub mod LastStructs
 pub mod Slots
-pub mod Gaps
+pub mod Spread

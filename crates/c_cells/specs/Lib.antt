@@ -7,3 +7,4 @@ pub mod Scalars
 pub mod Halts
 pub mod Slots
 pub mod Structs
+pub mod Kept

@@ -1,5 +1,5 @@
 -- The blocks of slots.
-use Rattle.std.specs.Prelude.{◌≡◌, ℕ, zero, suc, ◌+◌, ℤ, false, List, [], ◌∷◌, ◌++◌, Option, Some, None, slice_get, slice_set, replicate}
+use Rattle.std.specs.Prelude.{◌≡◌, ℕ, zero, suc, ◌+◌, ℤ, false, List, Option, Some, None, slice_get, slice_set}
 use Rattle.c_tree.specs.Tree as t
 use Rattle.c_meaning.specs.declared.StuckKind.TheVariants as k
 use Rattle.c_meaning.specs.Cells.{Cell, Empty, Int, Tree, Leaf, Block, Blocks, with_part}
@@ -41,16 +41,7 @@ abbrev pub changed_block : List ℕ → Tree → Option Block → Answer (Option
 changed_block path new None = Bad k.GoneUse
 changed_block path new (Some b) = Got (Some (record b { tree = with_part path new b.tree }))
 
--- two lists of slots, and between them so many blocks that are gone
-abbrev pub blocks_of : Blocks → ℕ → Blocks → Blocks
-blocks_of low gap high = low ++ (replicate gap None ++ high)
-
 -- the blocks without so many, from the one with this number on
 unfoldable pub removed : (first count : ℕ) → Blocks → Blocks
 removed first zero blocks = blocks
 removed first (suc k) blocks = removed (first + 1) k (slice_set blocks first None)
-
--- each block is gone
-abbrev pub AllGone : Blocks → Type 0
-AllGone [] = Unit {0}
-AllGone (o ∷ rest) = (o ≡ None) × AllGone rest

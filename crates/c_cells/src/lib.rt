@@ -5,6 +5,7 @@
 pub mod cell;
 pub mod fresh;
 pub mod halt;
+mod kept;
 pub mod memory;
 pub mod slot;
 pub mod structs;

@@ -1,5 +1,5 @@
 //! What a number stands for.
-ghost use Rattle.std.specs.Prelude.{◌≡◌, None, Some, true, false, IfOk, IfSome};
+ghost use Rattle.std.specs.Prelude.{◌≡◌, None, Some, true, false, IfOk, IfSome, is_none};
 ghost use Rattle.std.specs.Option.{option_map};
 ghost use Rattle.c_tree.specs.Tree as t;
 ghost use Rattle.c_meaning.specs.Cells.{Leaf, Int, with_part};
@@ -204,7 +204,7 @@ impl Slot {
 
     /// Whether the block is gone.
     pub fn is_gone(&self) -> bool
-        ensures { result ≡ true → self.now ≡ None }
+        ensures { result ≡ is_none self.now }
     {
         match &self.node {
             SlotNode::Gone => true,

@@ -107,7 +107,6 @@ impl Runner {
         )?;
         let locals = program.main.locals.as_slice();
         push_fresh(alloc, false, &declared, locals, &mut memory)?;
-        memory.seal();
         let frame = Frame {
             function: None,
             reach: program.functions.len(),
@@ -154,6 +153,7 @@ impl Runner {
     {
         let base = self.memory.made();
         let text = written_text(program, Some(function));
+        self.memory.begin()?;
         self.memory.append(&mut self.parameters)?;
         let declared = self.guide.declared(program);
         push_fresh(self.alloc, false, &declared, text.locals, &mut self.memory)?;
@@ -252,7 +252,7 @@ impl Runner {
     {
         let text = written_text(program, self.frame.function);
         let count = text.parameters.len() + text.locals.len();
-        self.memory.remove_all(self.frame.base, count);
+        self.memory.end(self.frame.base, count);
     }
 
     /// The function ends, and the one below goes on.

@@ -15,5 +15,5 @@ returns c =
     let vars = variables_at c.args.program.now old.frame in
     let same : ps ++ ls ≡ vars = ap (λ (x : List CVariable × List CVariable × List Statement). x.0 ++ x.1) c.written_text-text.ensures in
     let count : length ps + length ls ≡ length vars = let both : length (ps ++ ls) ≡ length ps + length ls = length-append ps ls in let one : length (ps ++ ls) ≡ length vars = ap length same in omega (arith, both, one) in
-    let gone = c.remove_all.ensures ∙ variables_gone vars old.frame.base (length ps + length ls) old.memory count in
+    let gone = c.end.ensures ∙ variables_gone vars old.frame.base (length ps + length ls) old.memory count in
     ap (λ (m : Blocks). record old { memory = m }) gone

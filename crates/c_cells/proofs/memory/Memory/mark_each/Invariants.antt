@@ -1,6 +1,6 @@
 use Rattle.std.proofs.Common.{◌≡◌, ◌+◌}
 use Rattle.c_cells.specs.Slots.{removed}
-use Rattle.c_cells.proofs.memory.Memory.remove_each.Given as goal
+use Rattle.c_cells.proofs.memory.Memory.mark_each.Given as goal
 
 abbrev pub invariant-loop-left : goal.invariant-loop-left
 invariant-loop-left l = record {
