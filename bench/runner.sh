@@ -1,7 +1,8 @@
 #!/usr/bin/env bash
 # Times the runner of C texts beside Lua 5.4 and `gcc -O0`, on programs that are made in a temporary folder. Each time is
 # the best of three runs. Wanted: a loop with two variables and calls of a small function in at most 4 times what Lua
-# takes, and the same loop and calls as fast below 10,000 functions and 10,000 globals, and under 10,000 calls.
+# takes, and the same loop and calls as fast below 10,000 functions and 10,000 globals, and under 10,000 calls; and blocks
+# that go in the order in which they are made, each after the next one was made, in memory that does not grow with the turns.
 set -eu
 top=$(cd "$(dirname "$0")/.." && pwd)
 . "$top/bench/best.sh"
@@ -43,6 +44,11 @@ sums=$'    s = (s + i);\n    i = (i + INT64_C(1));\n'
 { head_of; many 10000; main_of '' $'    i = f_10000(i);\n'; } > "$folder/calls_many.c"
 { head_of; many 1; deep_of "$sums"; } > "$folder/loop_deep.c"
 { head_of; many 1; deep_of $'    i = f_1(i);\n'; } > "$folder/calls_deep.c"
+{
+  head_of
+  main_of $'  int64_t *p;\n  int64_t *q;\n' $'    q = malloc(sizeof(int64_t));\n    free(p);\n    p = q;\n    i = (i + INT64_C(1));\n' |
+    sed 's/^  i = INT64_C(0);/  p = malloc(sizeof(int64_t));\n&/'
+} > "$folder/queue.c"
 cat > "$folder/loop.lua" <<LUA
 local i = 0
 local s = 0
@@ -80,3 +86,6 @@ for name in loop_one loop_many loop_deep calls_many calls_deep; do
   all=$(best 3 "$runner" "$folder/$name.c" "$steps")
   echo "$name, $turns turns: $((all - none)) us, beside $none us to read and begin"
 done
+ours=$(best 3 "$runner" "$folder/queue.c" "$steps")
+memory=$(/usr/bin/time -f %M "$runner" "$folder/queue.c" "$steps" 2>&1 > /dev/null | tail -1)
+echo "queue, $turns turns: $ours us in $memory KB"

@@ -1,5 +1,5 @@
 -- Blocks that are kept under their numbers, as the blocks that were made.
-use Rattle.std.proofs.Common.{◌≡◌, ℕ, zero, suc, ◌+◌, ◌-◌, ◌<◌, ◌≤◌, List, [], ◌∷◌, ◌++◌, length, take, drop, get_or, Option, Some, None, is_none, true, Result, Ok, Err, IfOk, IfErr, IfSome, refl, sym, ap, subst, ◌∙◌, arith}
+use Rattle.std.proofs.Common.{◌≡◌, ℕ, zero, suc, ◌+◌, ◌-◌, ◌<◌, ◌≤◌, List, [], ◌∷◌, ◌++◌, length, take, drop, get_or, Option, Some, None, is_none, is_some, cond, true, Result, Ok, Err, IfOk, IfErr, IfSome, refl, sym, ap, subst, ◌∙◌, arith}
 use Rattle.std.specs.Prelude.{ℤ, slice_get, slice_set, replicate}
 use Rattle.std.specs.List.Sorted.{IsSearchInRange, IsBinarySearchResult, IsNonDecreasingBy}
 use Rattle.std.specs.Ordering.{nat_cmp, ordering_index}
@@ -12,7 +12,7 @@ use Rattle.c_meaning.specs.Answer.{Got, Bad}
 use Rattle.c_meaning.specs.States.{changed, store}
 use Rattle.c_cells.specs.declared.kept.Kept.{Kept}
 use Rattle.c_cells.specs.Slots.{int_block, HoldsInt, changed_block}
-use Rattle.c_cells.specs.Kept.{spread, Rises, IsKept, IsIntKept, IsAbsent, AllGone}
+use Rattle.c_cells.specs.Kept.{spread, Rises, IsKept, IsIntKept, IsAbsent, AllGone, those_there}
 use Rattle.c_cells.proofs.Blocks.{block_some, none_stays, store_there, store_none, set_int}
 
 -- ---- lists one after the other
@@ -170,6 +170,39 @@ without_gone_from ks from made zero a r = all_gone ks from made a r
 without_gone_from [] from made (suc n) a r = refl
 without_gone_from (first ∷ rest) from made (suc n) a r = ap (λ l. replicate (first.number - from) None ++ (first.slot ∷ l)) (without_gone_from rest (first.number + 1) made n a r.1)
 
+-- those before number n that are gone, and the block n too, which is
+gone_up_to : (ks : List Kept) (from made n : ℕ) → from ≤ n → Rises (n + 1) ks made → spread from ks made ≡ replicate (n - from) None ++ (None ∷ spread (n + 1) ks made)
+unfolding spread
+gone_up_to [] from made n l r = sym (gone_both (n - from) (made - (n + 1)) (made - from) (omega (arith, l, r)))
+gone_up_to (first ∷ rest) from made n l r =
+    let after = first.slot ∷ spread (first.number + 1) rest made in
+    ap (λ k. k ++ after) (sym (gone_both (n - from) (first.number - (n + 1)) (first.number - from) (omega (arith, l, r.0))))
+    ∙ behind (replicate (n - from) None) (None ∷ replicate (first.number - (n + 1)) None) after
+
+rises_later : (ks : List Kept) (from later made : ℕ) → from ≤ later → Rises later ks made → Rises from ks made
+rises_later [] from later made l r = omega (arith, l, r)
+rises_later (first ∷ rest) from later made l r = (omega (arith, l, r.0), r.1)
+
+rises_one : (one : Kept) (rest : List Kept) (slot : Option Block) (from made : ℕ) → from ≤ one.number → Rises (one.number + 1) rest made → Rises from (cond (is_some slot) (one ∷ rest) rest) made
+rises_one one rest None from made l r = rises_later rest from (one.number + 1) made (omega (arith, l)) r
+rises_one one rest (Some b) from made l r = (l, r)
+
+rises_compacted_from : (ks : List Kept) (from made : ℕ) → Rises from ks made → Rises from (those_there ks) made
+rises_compacted_from [] from made r = r
+rises_compacted_from (first ∷ rest) from made r = rises_one first (those_there rest) first.slot from made r.0 (rises_compacted_from rest (first.number + 1) made r.1)
+
+compacted_one : (one : Kept) (rest : List Kept) (slot : Option Block) (from made : ℕ) → slot ≡ one.slot → from ≤ one.number → Rises (one.number + 1) rest made → spread from (cond (is_some slot) (one ∷ rest) rest) made ≡ replicate (one.number - from) None ++ (one.slot ∷ spread (one.number + 1) rest made)
+unfolding spread
+compacted_one one rest None from made e l r = gone_up_to rest from made one.number l r ∙ ap (λ o. replicate (one.number - from) None ++ (o ∷ spread (one.number + 1) rest made)) e
+compacted_one one rest (Some b) from made e l r = refl
+
+compacted_from : (ks : List Kept) (from made : ℕ) → Rises from ks made → spread from (those_there ks) made ≡ spread from ks made
+unfolding spread
+compacted_from [] from made r = refl
+compacted_from (first ∷ rest) from made r =
+    compacted_one first (those_there rest) first.slot from made refl r.0 (rises_compacted_from rest (first.number + 1) made r.1)
+    ∙ ap (λ l. replicate (first.number - from) None ++ (first.slot ∷ l)) (compacted_from rest (first.number + 1) made r.1)
+
 pub none_after : (ks : List Kept) → AllGone (drop (length ks) ks)
 none_after [] = tt
 none_after (first ∷ rest) = none_after rest
@@ -230,6 +263,12 @@ module _ (ks : List Kept) (made : ℕ) (r : Rises 0 ks made) where
 
   pub rises_cut : (n : ℕ) → Rises 0 (take n ks) made
   rises_cut n = rises_cut_from ks 0 made n r
+
+  pub compacted : spread 0 (those_there ks) made ≡ spread 0 ks made
+  compacted = compacted_from ks 0 made r
+
+  pub rises_compacted : Rises 0 (those_there ks) made
+  rises_compacted = rises_compacted_from ks 0 made r
 
   pub holds_int : (n i : ℕ) → IsKept ks n i → IsIntKept ks i → HoldsInt (spread 0 ks made) n
   holds_int n i h g = (g.1.1.0, at n i g.0 h g.1.0 ∙ ap Some g.1.1.1)

@@ -1,5 +1,5 @@
 -- Blocks that are kept under their numbers.
-use Rattle.std.specs.Prelude.{◌≡◌, ℕ, ◌+◌, ◌-◌, ◌<◌, ◌≤◌, List, [], ◌∷◌, ◌++◌, length, Option, Some, None, slice_get, slice_index_or, replicate}
+use Rattle.std.specs.Prelude.{◌≡◌, ℕ, ◌+◌, ◌-◌, ◌<◌, ◌≤◌, List, [], ◌∷◌, ◌++◌, length, Option, Some, None, is_some, filter, slice_get, slice_index_or, replicate}
 use Rattle.c_meaning.specs.Cells.{Block, Blocks}
 use Rattle.c_cells.specs.declared.kept.Kept.{Kept}
 use Rattle.c_cells.specs.Slots.{IsIntSlot}
@@ -31,3 +31,7 @@ pub record IsAbsent (kept : List Kept) (number at : ℕ) : Type 0 where
 abbrev pub AllGone : List Kept → Type 0
 AllGone [] = Unit {0}
 AllGone (kept ∷ rest) = (kept.slot ≡ None) × AllGone rest
+
+-- those whose block is there
+abbrev pub those_there : List Kept → List Kept
+those_there kept = filter (λ one. is_some one.slot) kept

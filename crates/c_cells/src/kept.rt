@@ -1,8 +1,8 @@
 //! Blocks that are kept under their numbers, in the order of these.
-ghost use Rattle.std.specs.Prelude.{◌≡◌, ℕ, ◌<◌, ◌-◌, Some, None, true, false, drop, length, IfOk, IfErr, IfSome, is_none, vec_len, slice_get, slice_set};
+ghost use Rattle.std.specs.Prelude.{◌≡◌, ◌⊎◌, ℕ, ◌<◌, ◌-◌, Some, None, true, false, drop, length, IfOk, IfErr, IfSome, is_none, vec_len, slice_get, slice_set};
 ghost use Rattle.c_meaning.specs.Cells.{Int};
 ghost use Rattle.c_cells.specs.Slots.{int_block};
-ghost use Rattle.c_cells.specs.Kept.{Rises, IsKept, IsIntKept, IsAbsent, AllGone};
+ghost use Rattle.c_cells.specs.Kept.{Rises, IsKept, IsIntKept, IsAbsent, AllGone, those_there};
 
 use crate::slot::Slot;
 use std::mem;
@@ -31,6 +31,17 @@ fn search(kept: &[Kept], made: usize, number: usize) -> Result<usize, usize>
     ensures absent { IfErr result (IsAbsent kept.now number) }
 {
     kept.binary_search_by_key(&number, |one| one.number)
+}
+
+/// Where the block with a number is kept, or the place before which it would be.
+pub fn place_for(kept: &[Kept], made: usize, number: usize) -> usize
+    requires { Rises 0 kept.now made }
+    ensures { IsKept kept.now number result ⊎ IsAbsent kept.now number result }
+{
+    match search(kept, made, number) {
+        Ok(place) => place,
+        Err(place) => place,
+    }
 }
 
 /// The slot of the block with a number, where it is kept at a place.
@@ -127,4 +138,11 @@ pub fn count_there(kept: &[Kept]) -> usize
         count -= 1;
     }
     count
+}
+
+/// Leaves only those that are there.
+pub fn retain_there(kept: &mut Vec<Kept>)
+    ensures { kept.new.items ≡ those_there kept.old.items }
+{
+    kept.retain(|one| !one.slot.is_gone());
 }

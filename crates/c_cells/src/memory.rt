@@ -5,10 +5,14 @@ ghost use Rattle.c_meaning.specs.Cells.{Leaf, Int, block_at};
 ghost use Rattle.c_meaning.specs.Answer.{Got};
 ghost use Rattle.c_meaning.specs.States.{store};
 ghost use Rattle.c_cells.specs.Halts.{Refuses};
+ghost use Rattle.c_cells.specs.Kept.{Rises};
 ghost use Rattle.c_cells.specs.Slots.{found_block, int_block, int_cell, removed, HoldsInt};
 
 use crate::halt::Halt;
-use crate::kept::{Kept, count_there, is_kept, place_of, replace, set_number, slot_at, slot_if};
+use crate::kept::{
+    Kept, count_there, is_kept, place_for, place_of, replace, retain_there, set_number, slot_at,
+    slot_if,
+};
 use crate::slot::{Found, Slot};
 use crate::tree::CellTree;
 use c_meaning::StuckKind;
@@ -36,17 +40,43 @@ impl Model for Block {
     ghost view = { λ a. record { of = a.of; tree = a.tree; heap = a.heap } };
 }
 
+/// Where the own blocks of a function lie, one after the other.
+#[derive(Debug, Drop, Clone, Copy)]
+struct Frame {
+    first: usize,
+    /// How far their numbers are ahead of their places.
+    ahead: usize,
+}
+
+impl Frame {
+    /// Finds the place of the first one.
+    fn find(&mut self, kept: &[Kept], made: usize)
+        requires { Rises 0 kept.now made }
+    {
+        self.ahead = self.first.wrapping_sub(place_for(kept, made, self.first));
+    }
+}
+
+fn find_each(frames: &mut [Frame], kept: &[Kept], made: usize)
+    requires { Rises 0 kept.now made }
+{
+    for frame in frames.iter_mut() {
+        frame.find(kept, made);
+    }
+}
+
 /// The blocks that were made, each under the next number. No number is given twice. A block that is
-/// gone is kept as such only while one that was made later is there.
+/// gone is kept as such only while one that was made later is there, and until the list is compacted.
 #[derive(Debug, Drop)]
 pub struct Memory {
     kept: Vec<Kept>,
     made: usize,
-    /// How far the numbers of the running function's blocks are ahead of their places: where to look
-    /// first.
-    ahead: usize,
-    /// The same of the functions that wait.
-    outer: Vec<usize>,
+    /// How long the list may get before those that are gone are taken out.
+    compact_at: usize,
+    /// Where a block of the running function is looked for first.
+    frame: Frame,
+    /// The frames of the functions that wait.
+    outer: Vec<Frame>,
 }
 
 impl Model for Memory {
@@ -74,7 +104,8 @@ impl Memory {
         Memory {
             kept: Vec::new(alloc),
             made: 0,
-            ahead: 0,
+            compact_at: 0,
+            frame: Frame { first: 0, ahead: 0 },
             outer: Vec::new(alloc),
         }
     }
@@ -101,7 +132,7 @@ impl Memory {
         ensures kept { IfSome result (λ slot. slice_get self.now number ≡ Some slot.now) }
         ensures none { result ≡ None → block_at self.now number ≡ None }
     {
-        let near = number.wrapping_sub(self.ahead);
+        let near = number.wrapping_sub(self.frame.ahead);
         match slot_if(&self.kept, number, near) {
             Some(slot) => Some(slot),
             None => self.slot_elsewhere(number),
@@ -137,7 +168,7 @@ impl Memory {
     pub fn get_number(&self, number: usize) -> Option<i64>
         ensures { IfSome result (λ z. block_at self.now number ≡ Some (int_block (Int z))) }
     {
-        let near = number.wrapping_sub(self.ahead);
+        let near = number.wrapping_sub(self.frame.ahead);
         if is_kept(&self.kept, number, near) {
             return slot_at(&self.kept, near).get_number();
         }
@@ -165,7 +196,7 @@ impl Memory {
         ensures int { result ≡ true → HoldsInt self.old number }
         ensures same { result ≡ false → self.new ≡ self.old }
     {
-        let near = number.wrapping_sub(self.ahead);
+        let near = number.wrapping_sub(self.frame.ahead);
         if is_kept(&self.kept, number, near) {
             return set_number(&mut self.kept, number, near, z);
         }
@@ -182,6 +213,9 @@ impl Memory {
     {
         if !self.has_numbers(1) {
             return Err(AllocError);
+        }
+        if self.kept.len() >= self.compact_at {
+            self.compact();
         }
         let number = self.made;
         self.kept.push(Kept { number, slot })?;
@@ -245,8 +279,10 @@ impl Memory {
     pub fn begin(&mut self) -> Result<(), AllocError>
         ensures { self.new ≡ self.old }
     {
-        self.outer.push(self.ahead)?;
-        self.ahead = self.made - self.kept.len();
+        self.outer.push(self.frame)?;
+        let first = self.made;
+        let ahead = first - self.kept.len();
+        self.frame = Frame { first, ahead };
         Ok(())
     }
 
@@ -257,7 +293,9 @@ impl Memory {
     {
         self.mark_each(first, count);
         self.give_up();
-        self.ahead = self.outer.pop().unwrap_or(0);
+        if let Some(frame) = self.outer.pop() {
+            self.frame = frame;
+        }
     }
 
     /// Makes the block with a number be gone.
@@ -300,5 +338,19 @@ impl Memory {
     {
         let count = count_there(&self.kept);
         self.kept.truncate(count);
+    }
+
+    /// Keeps only those that are there, and finds the frames again. The next time is when the list is
+    /// more than twice as long, so that this costs no more than what was made since.
+    #[inline(never)]
+    #[tactic(auto, using(crate::proofs::Spread::compacted, crate::proofs::Spread::rises_compacted))]
+    fn compact(&mut self)
+        ensures { self.new ≡ self.old }
+    {
+        retain_there(&mut self.kept);
+        self.frame.find(&self.kept, self.made);
+        find_each(&mut self.outer, &self.kept, self.made);
+        let twice = self.kept.len().saturating_mul(2);
+        self.compact_at = twice.saturating_add(self.outer.len()).saturating_add(1024);
     }
 }
