@@ -18,8 +18,6 @@ mod fault;
 mod program;
 mod statement;
 mod table;
-#[cfg(test)]
-mod tests;
 mod types;
 
 pub use fault::ConditionFault;

@@ -12,8 +12,6 @@
 
 mod fault;
 mod reading;
-#[cfg(test)]
-mod tests;
 
 pub use c_scanner::LONGEST_INPUT;
 pub use fault::CTextFault;

@@ -12,8 +12,6 @@ mod bytes;
 mod front;
 mod marks;
 mod scanning;
-#[cfg(test)]
-mod tests;
 mod text;
 mod words;
 

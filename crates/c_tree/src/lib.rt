@@ -19,8 +19,6 @@ pub mod expr;
 pub mod operators;
 pub mod program;
 pub mod statement;
-#[cfg(test)]
-mod tests;
 pub mod types;
 
 use tree_lists::Items;

@@ -24,8 +24,6 @@ mod fault;
 pub mod laws;
 mod lexing;
 mod piece;
-#[cfg(test)]
-mod tests;
 mod token;
 mod words;
 

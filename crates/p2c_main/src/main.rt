@@ -1,20 +1,9 @@
 //! p2c: old Pascal programs carried to C.
 #![tactic(auto)]
 
-mod execution;
-mod message;
-mod outcome;
-mod reading;
-#[cfg(test)]
-mod tests;
-mod top;
-mod translation;
-mod words;
-
-use crate::outcome::Outcome;
-use crate::top::p2c;
-use crate::words::Words;
 use p2c_outside::{RealFiles, StdSink, StdSource};
+use p2c_top::outcome::Outcome;
+use p2c_top::{Words, p2c};
 use std::io::ErrorKind;
 use std::process::ExitCode;
 use std::{env, io};

@@ -4,8 +4,6 @@
 mod dialect;
 mod name;
 mod place;
-#[cfg(test)]
-mod tests;
 mod text;
 
 pub use dialect::Dialect;

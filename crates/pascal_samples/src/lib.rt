@@ -5,7 +5,5 @@ mod append;
 mod draw;
 mod program;
 mod routine;
-#[cfg(test)]
-mod tests;
 
 pub use program::sample;

@@ -2,8 +2,6 @@
 #![tactic(auto)]
 
 mod running;
-#[cfg(test)]
-mod tests;
 
 pub use c_reader::LONGEST_INPUT;
 pub use running::run_text;

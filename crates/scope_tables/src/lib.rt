@@ -11,5 +11,3 @@ mod scopes;
 pub use fault::DeclareFault;
 pub use scopes::Scopes;
 
-#[cfg(test)]
-mod tests;

@@ -10,8 +10,3 @@ mod relations;
 
 pub use cell_counts::{MOST_CELLS, cells};
 pub use relations::{assignable, compatible, range, same};
-
-#[cfg(test)]
-mod cell_tests;
-#[cfg(test)]
-mod tests;

@@ -16,5 +16,3 @@ mod units;
 pub use fault::LinkFault;
 pub use linking::{Linked, link};
 
-#[cfg(test)]
-mod tests;
