@@ -8,13 +8,13 @@ use std::marker::Model;
 use tree_lists::Items;
 
 /// What a scalar holds.
-#[derive(Debug, Drop)]
+#[derive(Drop)]
 pub struct Cell {
     pub node: CellNode,
 }
 
 /// Nothing, a number of one of the three types, `NULL`, a part of a block, and a function.
-#[derive(Debug, Drop)]
+#[derive(Drop)]
 pub enum CellNode {
     Empty,
     Int(i64),

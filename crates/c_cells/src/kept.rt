@@ -7,7 +7,7 @@ ghost use Rattle.c_cells.specs.Kept.{Rises, IsKept, IsIntKept, IsAbsent, AllGone
 use crate::slot::Slot;
 use std::mem;
 
-#[derive(Debug, Drop)]
+#[derive(Drop)]
 pub struct Kept {
     pub number: usize,
     pub slot: Slot,

@@ -21,7 +21,7 @@ use std::alloc::{AllocError, Global};
 use std::marker::Model;
 
 /// A variable, or what a `malloc` made.
-#[derive(Debug, Drop)]
+#[derive(Drop)]
 pub struct Block {
     pub of: CType,
     pub tree: CellTree,
@@ -67,7 +67,7 @@ fn find_each(frames: &mut [Frame], kept: &[Kept], made: usize)
 
 /// The blocks that were made, each under the next number. No number is given twice. A block that is
 /// gone is kept as such only while one that was made later is there, and until the list is compacted.
-#[derive(Debug, Drop)]
+#[derive(Drop)]
 pub struct Memory {
     kept: Vec<Kept>,
     made: usize,

@@ -19,12 +19,12 @@ use std::mem;
 
 /// A block, or that it is gone. That of an `int64_t` variable lies in the slot itself, so that
 /// most blocks need no memory of their own.
-#[derive(Debug, Drop)]
+#[derive(Drop)]
 pub struct Slot {
     pub node: SlotNode,
 }
 
-#[derive(Debug, Drop)]
+#[derive(Drop)]
 pub enum SlotNode {
     Gone,
     /// An `int64_t` that holds nothing yet.

@@ -12,14 +12,14 @@ use tree_lists::Items;
 
 /// What a block holds.
 #[cycle(tree)]
-#[derive(Debug, Drop)]
+#[derive(Drop)]
 pub struct CellTree {
     pub node: CellTreeNode,
 }
 
 /// A scalar, or the members of a struct or elements of an array.
 #[cycle(tree)]
-#[derive(Debug, Drop)]
+#[derive(Drop)]
 pub enum CellTreeNode {
     Leaf(Cell),
     Branch(Items<CellTree>),

@@ -2,7 +2,7 @@ use c_grammar::fault::CTextKind;
 use std::alloc::AllocError;
 
 /// Why a program is refused.
-#[derive(Debug, Drop)]
+#[derive(Drop)]
 pub enum ConditionFault {
     /// The condition of this kind fails at the token that has so many before it.
     At { kind: CTextKind, token: usize },

@@ -1,7 +1,7 @@
 //! The words and marks that the grammar quotes.
 
 /// The words that the grammar quotes. No name is one of them.
-#[derive(Clone, Copy, Debug, PartialEq, Eq)]
+#[derive(Clone, Copy)]
 pub enum Word {
     Struct,
     Typedef,
@@ -32,7 +32,7 @@ pub enum Word {
 }
 
 /// The marks that the grammar quotes.
-#[derive(Clone, Copy, Debug, PartialEq, Eq)]
+#[derive(Clone, Copy)]
 pub enum Mark {
     OpenBrace,
     CloseBrace,
@@ -69,7 +69,7 @@ pub enum Mark {
 
 /// A token that lies in the bytes from which it was cut: a name by its bytes, a number by its digits,
 /// and a quoted word or mark. `token_of` of `specs/Seen.antt` says which token of the grammar it is.
-#[derive(Clone, Copy, Debug)]
+#[derive(Clone, Copy)]
 pub enum CToken<'a> {
     Identifier(&'a [u8]),
     Numeral(&'a [u8]),

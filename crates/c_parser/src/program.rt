@@ -16,7 +16,7 @@ use token_parsing::refusal::{ParseError, unexpected};
 use tree_lists::Items;
 
 /// The parts of a program before its `main`.
-#[derive(Debug, Drop)]
+#[derive(Drop)]
 pub struct Parts {
     pub forwards: Items<Name>,
     pub declarations: Items<CDeclaration>,
@@ -173,7 +173,7 @@ fn global<'a>(
 }
 
 /// What a function is known by.
-#[derive(Debug, Drop)]
+#[derive(Drop)]
 struct Heading {
     name: Name,
     result: Option<CType>,

@@ -9,7 +9,7 @@ use Rattle.c_grammar.specs.declared.token.Word.TheVariants as word
 use Rattle.c_grammar.specs.Token.{Token, Quoted, Placed}
 use Rattle.c_grammar.specs.Seen.{tokens_of, AreTokens}
 use Rattle.c_grammar.specs.Demands.{program_demands}
-use Rattle.c_grammar.specs.Text.{CText, Spells, plain}
+use Rattle.c_grammar.specs.Text.{CText, Begins, Spells, plain}
 use Rattle.c_grammar.proofs.UniqueTree.{same_text}
 use Rattle.c_scanner.specs.declared.text.PlacedTokens.{PlacedTokens}
 use Rattle.c_scanner.specs.Seen.{seen}
@@ -23,7 +23,7 @@ use Rattle.c_reader.specs.declared.fault.CTextFault.TheVariants.{At, Memory}
 use Rattle.c_reader.specs.Main.{is_main, has_main}
 use Rattle.c_reader.specs.Read.{line_at, IsCut, IsFault, IsTree}
 use Rattle.c_reader.proofs.Fronts.{places_long, found_at}
-use Rattle.c_reader.proofs.Refused.{ended, without_main, unexpected_at, too_deep_at, unexpected_end, too_deep_end, read_text, fails_at, fails_within}
+use Rattle.c_reader.proofs.Refused.{ended, without_main, unexpected_at, too_deep_at, unexpected_end, too_deep_end, unexpected_end_begun, too_deep_end_begun, read_text, fails_at, fails_within}
 
 pub token_of : (text : PlacedTokens) (token : ℕ) → token < length text.tokens.items → (t : Placed) × (slice_get (seen text) token ≡ Some t)
 token_of text token h = found_at (seen text) token (omega (arith, places_long text.tokens.items text.places.items text.as_many))
@@ -67,15 +67,15 @@ module _ (bytes : List ℕ) (text : PlacedTokens) (cut : IsCut bytes text) where
 
   -- ---- the end of the tokens
 
-  pub end_faults : (answer : CTextFault) → ((c : CProgram) → Spells c tokens → ⊥) → answer ≡ At kind.Unexpected (line_at bytes (length bytes)) → IsFault bytes answer
-  end_faults answer none e =
+  pub end_faults : (answer : CTextFault) → ((c : CProgram) → Spells c tokens → ⊥) → Begins tokens → answer ≡ At kind.Unexpected (line_at bytes (length bytes)) → IsFault bytes answer
+  end_faults answer none begun e =
       let none' = λ (c : CProgram) (s : Spells c (plain (seen text))). none c (subst (Spells c) as_seen s) in
-      subst (IsFault bytes) (sym e) (ended bytes (seen text) (line_at bytes (length bytes)) cut.cut none' refl)
+      subst (IsFault bytes) (sym e) (ended bytes (seen text) (line_at bytes (length bytes)) cut.cut none' (subst Begins (sym as_seen) begun) refl)
 
-  pub main_faults : (answer : CTextFault) → has_main tokens ≡ false → answer ≡ At kind.NoMain (line_at bytes (length bytes)) → IsFault bytes answer
-  main_faults answer without e =
+  pub main_faults : (answer : CTextFault) → has_main tokens ≡ false → Begins tokens → answer ≡ At kind.NoMain (line_at bytes (length bytes)) → IsFault bytes answer
+  main_faults answer without begun e =
       let none = λ (h : Contains (plain (seen text)) (Quoted word.Main)). no_main tokens without (subst (λ ts. Contains ts (Quoted word.Main)) as_seen h) in
-      subst (IsFault bytes) (sym e) (without_main bytes (seen text) (line_at bytes (length bytes)) cut.cut none refl)
+      subst (IsFault bytes) (sym e) (without_main bytes (seen text) (line_at bytes (length bytes)) cut.cut none (subst Begins (sym as_seen) begun) refl)
 
   -- ---- a refused token
 
@@ -97,6 +97,12 @@ module _ (bytes : List ℕ) (text : PlacedTokens) (cut : IsCut bytes text) where
 
     pub too_deep_ends : IsParsed tokens (Err (fault.TooDeep token)) → length text.tokens.items ≤ token → (c : CProgram) → Spells c tokens → ⊥
     too_deep_ends refused above c s = too_deep_end bytes (seen text) cut.cut formed token (parsed (Err (fault.TooDeep token)) refused) (omega (arith, as_long)) c (subst (Spells c) (sym as_seen) s)
+
+    pub unexpected_ends_begun : IsParsed tokens (Err (fault.Unexpected token)) → length text.tokens.items ≤ token → Begins tokens
+    unexpected_ends_begun refused above = subst Begins as_seen (unexpected_end_begun bytes (seen text) cut.cut formed token (parsed (Err (fault.Unexpected token)) refused) (omega (arith, as_long)))
+
+    pub too_deep_ends_begun : IsParsed tokens (Err (fault.TooDeep token)) → length text.tokens.items ≤ token → Begins tokens
+    too_deep_ends_begun refused above = subst Begins as_seen (too_deep_end_begun bytes (seen text) cut.cut formed token (parsed (Err (fault.TooDeep token)) refused) (omega (arith, as_long)))
 
   -- ---- a tree
 

@@ -2,7 +2,7 @@
 ghost use Rattle.std.specs.Prelude.{◌≡◌, ◌<◌, ◌≤◌, length, Some, Ok, Err, IfOk, IfErr, slice_get};
 ghost use Rattle.c_grammar.specs.Demands.{program_demands};
 ghost use Rattle.c_grammar.specs.Seen.{token_of, tokens_of};
-ghost use Rattle.c_grammar.specs.Text.{CText, Spells};
+ghost use Rattle.c_grammar.specs.Text.{Begins, CText, Spells};
 ghost use Rattle.c_grammar.specs.Token.{Placed};
 ghost use Rattle.c_scanner.specs.Scan.{IsRefused};
 ghost use Rattle.c_scanner.specs.Seen.{seen};
@@ -73,6 +73,7 @@ fn fault_at_end(bytes: &[u8], text: &PlacedTokens<'_>) -> CTextFault
     requires short { length bytes.now ≤ LONGEST_INPUT }
     requires cut { IsCut bytes.now text.now }
     requires none { (c : CProgram) → Spells c (tokens_of text.now.tokens.items) → ⊥ }
+    requires begun { Begins (tokens_of text.now.tokens.items) }
     ensures { IsFault bytes.now result }
 {
     let end = bytes.len() as u32;

@@ -5,7 +5,7 @@ ghost use Rattle.c_grammar.specs.Token as grammar;
 ghost use Rattle.c_scanner.specs.Cut as spec;
 
 /// What begins with a byte.
-#[derive(Clone, Copy, Debug, PartialEq, Eq)]
+#[derive(Clone, Copy)]
 pub enum Start {
     White,
     /// A name or a word.

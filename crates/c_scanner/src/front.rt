@@ -10,7 +10,7 @@ use crate::marks::{mark_of, pair_of};
 use crate::words::word_of;
 use c_grammar::token::{CToken, Mark};
 
-#[derive(Clone, Copy, Debug)]
+#[derive(Clone, Copy)]
 pub enum Front<'a> {
     /// A byte of white space.
     White,

@@ -20,7 +20,7 @@ const HEAD_LINES: &[u8] =
     b"/* p2c 1 */\n#include <stdint.h>\n#include <stdio.h>\n#include <stdlib.h>\n";
 
 /// Why a text has no tokens.
-#[derive(Debug, Drop)]
+#[derive(Drop)]
 pub enum ScanFault {
     /// The first byte that differs from the head lines, or with which nothing begins, or the end of
     /// a text that ends within the head lines.

@@ -4,7 +4,7 @@ ghost use Rattle.std.specs.Prelude.{◌≡◌, length};
 use c_grammar::token::CToken;
 
 /// The tokens of a text, in order.
-#[derive(Debug, Drop)]
+#[derive(Drop)]
 pub struct PlacedTokens<'a> {
     pub tokens: Vec<CToken<'a>>,
     /// For each token the number of bytes before it.

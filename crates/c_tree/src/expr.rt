@@ -11,7 +11,7 @@ use tree_lists::{Boxed, Items};
 
 /// A name, and `(* pointer)`.
 #[cycle(expr)]
-#[derive(Debug, Drop)]
+#[derive(Drop)]
 pub enum CBasePlace {
     Variable(Name),
     Pointee(Boxed<CExpr>),
@@ -19,7 +19,7 @@ pub enum CBasePlace {
 
 /// `.member` and `[index]`.
 #[cycle(expr)]
-#[derive(Debug, Drop)]
+#[derive(Drop)]
 pub enum CSelector {
     Member(Name),
     Index(CExpr),
@@ -27,14 +27,14 @@ pub enum CSelector {
 
 /// What a value is read from and written to: what selectors, one after another, select.
 #[cycle(expr)]
-#[derive(Debug, Drop)]
+#[derive(Drop)]
 pub struct CPlace {
     pub base: CBasePlace,
     pub selectors: Items<CSelector>,
 }
 
 #[cycle(expr)]
-#[derive(Debug, Drop)]
+#[derive(Drop)]
 pub struct CExpr {
     pub node: CExprNode,
 }
@@ -42,7 +42,7 @@ pub struct CExpr {
 /// A place that is read, `INT64_C(n)`, `UINT64_C(n)`, `NULL`, `(& place)`, an operator before one
 /// operand and between two, and a cast.
 #[cycle(expr)]
-#[derive(Debug, Drop)]
+#[derive(Drop)]
 pub enum CExprNode {
     Read(Boxed<CPlace>),
     Number(u64),

@@ -3,7 +3,7 @@
 use crate::Name;
 
 /// `-`, `!` and `~`.
-#[derive(Clone, Copy, Debug, PartialEq, Eq)]
+#[derive(Clone, Copy)]
 pub enum CUnary {
     Minus,
     Not,
@@ -11,7 +11,7 @@ pub enum CUnary {
 }
 
 /// The operators between two operands. `And` and `Or` are `&&` and `||`.
-#[derive(Clone, Copy, Debug, PartialEq, Eq)]
+#[derive(Clone, Copy)]
 pub enum CBinary {
     Add,
     Subtract,
@@ -34,7 +34,7 @@ pub enum CBinary {
 }
 
 /// What a cast names: `int64_t`, `uint64_t`, `void *` and `struct name *`.
-#[derive(Debug, Drop)]
+#[derive(Drop)]
 pub enum CCast {
     Int,
     Word,

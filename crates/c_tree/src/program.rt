@@ -6,28 +6,28 @@ use crate::types::CType;
 use tree_lists::Items;
 
 /// A global, a parameter or a local variable.
-#[derive(Debug, Drop)]
+#[derive(Drop)]
 pub struct CVariable {
     pub name: Name,
     pub of: CType,
 }
 
 /// A member of a struct. One with a length is an array of that many values of its type.
-#[derive(Debug, Drop)]
+#[derive(Drop)]
 pub struct CMember {
     pub name: Name,
     pub of: CType,
     pub length: Option<u64>,
 }
 
-#[derive(Debug, Drop)]
+#[derive(Drop)]
 pub struct CStruct {
     pub name: Name,
     pub members: Items<CMember>,
 }
 
 /// A name for the type of pointers to functions: `typedef result (*name)(parameters);`.
-#[derive(Debug, Drop)]
+#[derive(Drop)]
 pub struct CTypedef {
     pub name: Name,
     pub result: Option<CType>,
@@ -35,21 +35,21 @@ pub struct CTypedef {
 }
 
 /// A declaration of a type.
-#[derive(Debug, Drop)]
+#[derive(Drop)]
 pub enum CDeclaration {
     Typedef(CTypedef),
     Struct(CStruct),
 }
 
 /// The line that announces a function.
-#[derive(Debug, Drop)]
+#[derive(Drop)]
 pub struct CPrototype {
     pub name: Name,
     pub result: Option<CType>,
     pub parameters: Items<CVariable>,
 }
 
-#[derive(Debug, Drop)]
+#[derive(Drop)]
 pub struct CFunction {
     pub name: Name,
     pub result: Option<CType>,
@@ -59,14 +59,14 @@ pub struct CFunction {
 }
 
 /// The function `main`.
-#[derive(Debug, Drop)]
+#[derive(Drop)]
 pub struct CMain {
     pub locals: Items<CVariable>,
     pub body: Items<CStatement>,
 }
 
 /// A whole text, in the order of its parts. `forwards` has the names of the lines `struct name;`.
-#[derive(Debug, Drop)]
+#[derive(Drop)]
 pub struct CProgram {
     pub forwards: Items<Name>,
     pub declarations: Items<CDeclaration>,

@@ -9,14 +9,14 @@ use std::marker::Model;
 use tree_lists::Items;
 
 /// What a call calls: a name, or `(* pointer)`.
-#[derive(Debug, Drop)]
+#[derive(Drop)]
 pub enum CCallee {
     Direct(Name),
     Indirect(CExpr),
 }
 
 #[cycle(statement)]
-#[derive(Debug, Drop)]
+#[derive(Drop)]
 pub struct CStatement {
     pub node: CStatementNode,
 }
@@ -25,7 +25,7 @@ pub struct CStatement {
 /// and `Label(name)` is `name: ;`. Contracts see the statements between the braces of an `if` or a
 /// `while` as the `body_of` their list.
 #[cycle(statement)]
-#[derive(Debug, Drop)]
+#[derive(Drop)]
 pub enum CStatementNode {
     Assign(CPlace, CExpr),
     Call(Option<CPlace>, CCallee, Items<CExpr>),

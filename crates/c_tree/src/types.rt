@@ -8,7 +8,7 @@ use std::marker::Model;
 
 /// What a type is before its stars: `int64_t`, `uint64_t`, `unsigned char`, `struct name`, a
 /// typedef's name and `void *`.
-#[derive(Debug, Drop)]
+#[derive(Drop)]
 pub enum CBaseType {
     Int,
     Word,
@@ -19,7 +19,7 @@ pub enum CBaseType {
 }
 
 /// The type of a value: so many stars after another type.
-#[derive(Debug, Drop)]
+#[derive(Drop)]
 pub struct CType {
     pub base: CBaseType,
     pub stars: usize,

@@ -11,7 +11,7 @@ use p2c_text::Dialect;
 use std::alloc::{AllocError, Global};
 
 /// What the words ask for, with what stands in them.
-#[derive(Debug, Drop)]
+#[derive(Drop)]
 pub enum Setting<'a> {
     Translate {
         dialect: Dialect,

@@ -6,14 +6,14 @@ ghost use Rattle.dialect_lexer.specs.Bytes as spec;
 use p2c_text::Dialect;
 
 /// A base of numbers.
-#[derive(Clone, Copy, Debug, PartialEq, Eq)]
+#[derive(Clone, Copy)]
 pub enum Base {
     Decimal,
     Hexadecimal,
 }
 
 /// What begins with a byte.
-#[derive(Clone, Copy, Debug, PartialEq, Eq)]
+#[derive(Clone, Copy)]
 pub enum Start {
     /// A name or a word symbol.
     Name,

@@ -9,7 +9,7 @@ use crate::bytes::{Base, digit_value, is_digit, is_digit_in, is_in_line, is_name
 use p2c_text::Dialect;
 
 /// What closes a comment or a directive.
-#[derive(Clone, Copy, Debug, PartialEq, Eq)]
+#[derive(Clone, Copy)]
 pub enum Closer {
     /// `}` or `*)`
     Either,
@@ -23,7 +23,7 @@ pub enum Closer {
 
 /// Digits: how many there are, and the value of the number that ends with them. A value of 2^63
 /// stands for itself and all above.
-#[derive(Clone, Copy, Debug, PartialEq, Eq)]
+#[derive(Clone, Copy)]
 pub struct Digits {
     pub len: usize,
     pub value: u64,

@@ -16,7 +16,7 @@ use crate::words::{is_same, word_of};
 use p2c_text::Dialect;
 
 /// What a piece is.
-#[derive(Clone, Copy, Debug, PartialEq, Eq)]
+#[derive(Clone, Copy)]
 pub enum PieceKind {
     Separator,
     /// A part of a text: a quoted one, or a character by its number.
@@ -26,14 +26,14 @@ pub enum PieceKind {
 }
 
 /// A piece, and the number of its bytes.
-#[derive(Clone, Copy, Debug, PartialEq, Eq)]
+#[derive(Clone, Copy)]
 pub struct Piece {
     pub kind: PieceKind,
     pub len: usize,
 }
 
 /// A fault, and the number of its bytes.
-#[derive(Clone, Copy, Debug, PartialEq, Eq)]
+#[derive(Clone, Copy)]
 pub struct Flaw {
     pub kind: LexKind,
     pub len: usize,

@@ -5,7 +5,7 @@ use std::marker::Model;
 use tree_lists::Items;
 
 /// The word symbols of all dialects.
-#[derive(Clone, Copy, Debug, PartialEq, Eq)]
+#[derive(Clone, Copy)]
 pub enum Word {
     KwAnd,
     KwArray,
@@ -61,7 +61,7 @@ pub enum Word {
 
 /// The special symbols. `(.`, `.)` and `@` are other spellings of `OpenBracket`, `CloseBracket` and
 /// `Caret`.
-#[derive(Clone, Copy, Debug, PartialEq, Eq)]
+#[derive(Clone, Copy)]
 pub enum Symbol {
     Plus,
     Minus,
@@ -87,7 +87,7 @@ pub enum Symbol {
 }
 
 /// What a token is.
-#[derive(Clone, Copy, Debug, PartialEq, Eq)]
+#[derive(Clone, Copy)]
 pub enum TokenKind {
     Word(Word),
     Name,
@@ -99,14 +99,14 @@ pub enum TokenKind {
 }
 
 /// A token, and where it stands.
-#[derive(Clone, Copy, Debug, PartialEq, Eq)]
+#[derive(Clone, Copy)]
 pub struct Token {
     pub kind: TokenKind,
     pub span: Span,
 }
 
 /// The tokens of a file, in order, and the number of the file.
-#[derive(Debug, Drop)]
+#[derive(Drop)]
 pub struct TokenList {
     number: u32,
     list: Items<Token>,

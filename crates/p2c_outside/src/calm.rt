@@ -6,7 +6,7 @@ use crate::outside::{Failed, Sink, Source};
 use crate::pieces::fill_front;
 
 /// A source that gives bytes from memory, as many as fit, and never fails.
-#[derive(Debug, Drop)]
+#[derive(Drop)]
 pub struct CalmSource {
     /// All bytes, those that were given among them.
     pub bytes: Vec<u8>,
@@ -40,7 +40,7 @@ impl Source for CalmSource {
 }
 
 /// A sink that counts bytes and drops them, and never fails.
-#[derive(Clone, Copy, Debug, PartialEq, Eq)]
+#[derive(Clone, Copy)]
 pub struct CalmSink {
     /// How many bytes were put. The count stops at its last value.
     pub count: u64,

@@ -10,7 +10,7 @@ use crate::pieces::{fill_front, is_listed};
 use p2c_text::Text;
 
 /// Files in memory, of which chosen reads fail. Of several files with one name the first is meant.
-#[derive(Debug, Drop)]
+#[derive(Drop)]
 pub struct MemoryFiles {
     /// The files.
     pub names: Vec<Text>,

@@ -7,7 +7,7 @@ use crate::pieces::is_listed;
 use std::alloc::{AllocError, Global};
 
 /// A sink that holds its bytes in memory, has room for so many, and fails at chosen calls.
-#[derive(Debug, Drop)]
+#[derive(Drop)]
 pub struct MemorySink {
     /// The bytes that were put.
     pub bytes: Vec<u8>,

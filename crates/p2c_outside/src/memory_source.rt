@@ -6,7 +6,7 @@ use crate::outside::{Failed, Source};
 use crate::pieces::{fill_front, is_listed};
 
 /// A source that gives bytes from memory and fails at chosen calls.
-#[derive(Debug, Drop)]
+#[derive(Drop)]
 pub struct MemorySource {
     /// All bytes, those that were given among them.
     pub bytes: Vec<u8>,

@@ -3,11 +3,11 @@ ghost use Rattle.p2c_outside.specs.Counts.{Rose};
 ghost use Rattle.p2c_outside.specs.Told.{Loses, Gains, IsEmpty, Named, WhereTold, IsAbsence};
 
 /// A call of a source or a sink was refused.
-#[derive(Clone, Copy, Debug, PartialEq, Eq)]
+#[derive(Clone, Copy)]
 pub struct Failed;
 
 /// Why files gave no bytes.
-#[derive(Clone, Copy, Debug, PartialEq, Eq)]
+#[derive(Clone, Copy)]
 pub enum FileFault {
     /// No file has the name.
     Missing,

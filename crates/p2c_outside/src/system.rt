@@ -9,7 +9,7 @@ use std::io::{ErrorKind, Read, Seek, SeekFrom, Write};
 use std::{fs, rt};
 
 /// A source over a reader, as standard input.
-#[derive(Debug, Drop)]
+#[derive(Drop)]
 pub struct StdSource<R> {
     pub input: R,
     /// How many calls failed. The count stops at its last value.
@@ -17,7 +17,7 @@ pub struct StdSource<R> {
 }
 
 /// A sink over a writer, as standard output or standard error.
-#[derive(Debug, Drop)]
+#[derive(Drop)]
 pub struct StdSink<W> {
     pub output: W,
     /// How many calls failed. The count stops at its last value.
@@ -25,7 +25,7 @@ pub struct StdSink<W> {
 }
 
 /// The files that the runtime reaches.
-#[derive(Debug, Drop)]
+#[derive(Drop)]
 pub struct RealFiles<R> {
     pub runtime: R,
     /// How many calls found no file. The count stops at its last value.

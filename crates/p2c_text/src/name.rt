@@ -7,7 +7,7 @@ use std::marker::Model;
 use tree_lists::Items;
 
 /// A name, with its letters in lower case.
-#[derive(Debug, Drop, Clone, PartialEq, Eq, PartialOrd, Ord, Hash)]
+#[derive(Drop, Clone, PartialEq, Eq, Hash)]
 pub struct Name {
     bytes: Items<u8>,
 }

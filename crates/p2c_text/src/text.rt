@@ -1,7 +1,7 @@
 use std::marker::Model;
 
 /// A file: its name and its bytes.
-#[derive(Debug, Drop)]
+#[derive(Drop)]
 pub struct Text {
     pub name: String,
     pub bytes: Vec<u8>,
@@ -17,7 +17,7 @@ impl Model for Text {
 }
 
 /// The files of one translation, in order.
-#[derive(Debug, Drop)]
+#[derive(Drop)]
 pub struct Texts {
     pub files: Vec<Text>,
 }

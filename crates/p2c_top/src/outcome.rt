@@ -8,7 +8,7 @@ use c_meaning::StuckKind;
 use dialect_lexer::LexKind;
 
 /// Why a text is not translated.
-#[derive(Clone, Copy, Debug, PartialEq, Eq)]
+#[derive(Clone, Copy)]
 pub enum SourceFault {
     /// It has no tokens.
     Lexical(LexKind),
@@ -21,7 +21,7 @@ pub enum SourceFault {
 }
 
 /// How a run of p2c ended. Files count from 0, as the words name them, and lines from 1.
-#[derive(Clone, Copy, Debug, PartialEq, Eq)]
+#[derive(Clone, Copy)]
 pub enum Outcome {
     /// The whole C text is written.
     Done,

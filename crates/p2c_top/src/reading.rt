@@ -14,7 +14,7 @@ use translate_core::LONGEST_INPUT;
 use tree_lists::Items;
 
 /// Why a file was not read whole.
-#[derive(Clone, Copy, Debug, PartialEq, Eq)]
+#[derive(Clone, Copy)]
 pub enum ReadRefusal {
     Missing,
     Failed,
@@ -66,7 +66,7 @@ pub fn read_whole<F: Files>(
 }
 
 /// The file that was not read, by its number, and why.
-#[derive(Clone, Copy, Debug)]
+#[derive(Clone, Copy)]
 pub struct Unread {
     pub file: usize,
     pub refusal: ReadRefusal,

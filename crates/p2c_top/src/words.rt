@@ -9,7 +9,7 @@ use std::alloc::{AllocError, Global};
 use std::marker::Model;
 
 /// The words after the program's name, in order.
-#[derive(Debug, Drop)]
+#[derive(Drop)]
 pub struct Words {
     pub list: Vec<String>,
 }

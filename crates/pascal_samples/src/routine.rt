@@ -9,7 +9,7 @@ use crate::draw::{below, next};
 use std::alloc::AllocError;
 
 /// What a routine does.
-#[derive(Clone, Copy, Debug, PartialEq, Eq)]
+#[derive(Clone, Copy)]
 pub enum RoutineKind {
     /// It adds to the sum.
     Plain,
@@ -22,7 +22,7 @@ pub enum RoutineKind {
 }
 
 /// What is drawn for a routine, and the generator's state after it.
-#[derive(Clone, Copy, Debug, PartialEq, Eq)]
+#[derive(Clone, Copy)]
 pub struct Drawn {
     pub kind: RoutineKind,
     /// What it adds, 1 to 900.

@@ -7,13 +7,13 @@ use tree_lists::Items;
 /// The bytes for which a text stands.
 pub type TextBytes = Items<u8>;
 
-#[derive(Clone, Copy, Debug, PartialEq, Eq)]
+#[derive(Clone, Copy)]
 pub enum Sign {
     Plus,
     Minus,
 }
 
-#[derive(Debug, Drop)]
+#[derive(Drop)]
 pub enum Constant {
     Number {
         sign: Option<Sign>,
@@ -33,7 +33,7 @@ pub enum Constant {
 
 /// A label of a `case` or of a variant: a value, or in Turbo and HP the values from the first to
 /// the last.
-#[derive(Debug, Drop)]
+#[derive(Drop)]
 pub struct CaseLabel {
     pub first: Constant,
     pub last: Option<Constant>,

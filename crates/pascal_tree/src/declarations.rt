@@ -4,20 +4,20 @@ use crate::{Constant, Expr, Identifier, Identifiers, Labels, Stmts, TypeName, Ty
 use p2c_text::Span;
 use tree_lists::{Boxed, Items};
 
-#[derive(Debug, Drop)]
+#[derive(Drop)]
 pub struct LabelPart {
     pub labels: Labels,
     pub span: Span,
 }
 
 /// The value of a constant: in Iso and UCSD a constant, in Turbo and HP an expression.
-#[derive(Debug, Drop)]
+#[derive(Drop)]
 pub enum Value {
     Constant(Constant),
     Expression(Expr),
 }
 
-#[derive(Debug, Drop)]
+#[derive(Drop)]
 pub struct ConstDefinition {
     pub name: Identifier,
     pub value: Value,
@@ -26,13 +26,13 @@ pub struct ConstDefinition {
 
 pub type ConstDefinitions = Items<ConstDefinition>;
 
-#[derive(Debug, Drop)]
+#[derive(Drop)]
 pub struct ConstPart {
     pub definitions: ConstDefinitions,
     pub span: Span,
 }
 
-#[derive(Debug, Drop)]
+#[derive(Drop)]
 pub struct TypeDefinition {
     pub name: Identifier,
     pub of: TypeNode,
@@ -41,14 +41,14 @@ pub struct TypeDefinition {
 
 pub type TypeDefinitions = Items<TypeDefinition>;
 
-#[derive(Debug, Drop)]
+#[derive(Drop)]
 pub struct TypePart {
     pub definitions: TypeDefinitions,
     pub span: Span,
 }
 
 /// Variables of one type.
-#[derive(Debug, Drop)]
+#[derive(Drop)]
 pub struct VarSection {
     pub names: Identifiers,
     pub of: TypeNode,
@@ -57,7 +57,7 @@ pub struct VarSection {
 
 pub type VarSections = Items<VarSection>;
 
-#[derive(Debug, Drop)]
+#[derive(Drop)]
 pub struct VarPart {
     pub sections: VarSections,
     pub span: Span,
@@ -65,14 +65,14 @@ pub struct VarPart {
 
 /// Formal parameters in parentheses.
 #[cycle(formals)]
-#[derive(Debug, Drop)]
+#[derive(Drop)]
 pub struct Formals {
     pub list: FormalList,
     pub span: Span,
 }
 
 #[cycle(formals)]
-#[derive(Debug, Drop)]
+#[derive(Drop)]
 pub enum Formal {
     /// With `var` they are variable parameters.
     Variables {
@@ -97,7 +97,7 @@ pub enum Formal {
 pub type FormalList = Items<Formal>;
 
 /// The second heading of a function that was announced has no result.
-#[derive(Debug, Drop)]
+#[derive(Drop)]
 pub enum Heading {
     Procedure {
         name: Identifier,
@@ -114,14 +114,14 @@ pub enum Heading {
 
 /// A block, or a directive such as `forward`.
 #[cycle(blocks)]
-#[derive(Debug, Drop)]
+#[derive(Drop)]
 pub enum RoutineBody {
     Block(Boxed<Block>),
     Directive(Identifier),
 }
 
 #[cycle(blocks)]
-#[derive(Debug, Drop)]
+#[derive(Drop)]
 pub struct Routine {
     pub heading: Heading,
     pub body: RoutineBody,
@@ -129,7 +129,7 @@ pub struct Routine {
 }
 
 #[cycle(blocks)]
-#[derive(Debug, Drop)]
+#[derive(Drop)]
 pub enum Declaration {
     Labels(LabelPart),
     Constants(ConstPart),
@@ -141,7 +141,7 @@ pub enum Declaration {
 pub type Declarations = Items<Declaration>;
 
 #[cycle(blocks)]
-#[derive(Debug, Drop)]
+#[derive(Drop)]
 pub struct Block {
     pub declarations: Declarations,
     pub body: Stmts,

@@ -4,7 +4,7 @@ use crate::{Identifier, Sign, TextBytes};
 use p2c_text::Span;
 use tree_lists::{Boxed, Items};
 
-#[derive(Clone, Copy, Debug, PartialEq, Eq)]
+#[derive(Clone, Copy)]
 pub enum Relation {
     Equal,
     NotEqual,
@@ -15,7 +15,7 @@ pub enum Relation {
     In,
 }
 
-#[derive(Clone, Copy, Debug, PartialEq, Eq)]
+#[derive(Clone, Copy)]
 pub enum Adding {
     Add,
     Subtract,
@@ -24,7 +24,7 @@ pub enum Adding {
     Xor,
 }
 
-#[derive(Clone, Copy, Debug, PartialEq, Eq)]
+#[derive(Clone, Copy)]
 pub enum Multiplying {
     Multiply,
     /// `/`
@@ -39,7 +39,7 @@ pub enum Multiplying {
 }
 
 #[cycle(expressions)]
-#[derive(Debug, Drop)]
+#[derive(Drop)]
 pub struct Expr {
     pub left: Simple,
     pub right: Option<Boxed<(Relation, Simple)>>,
@@ -50,7 +50,7 @@ pub type Exprs = Items<Expr>;
 
 /// A sum. The sign stands before its first term alone.
 #[cycle(expressions)]
-#[derive(Debug, Drop)]
+#[derive(Drop)]
 pub struct Simple {
     pub sign: Option<Sign>,
     pub first: Term,
@@ -59,7 +59,7 @@ pub struct Simple {
 }
 
 #[cycle(expressions)]
-#[derive(Debug, Drop)]
+#[derive(Drop)]
 pub struct AddedTerm {
     pub operator: Adding,
     pub term: Term,
@@ -68,7 +68,7 @@ pub struct AddedTerm {
 pub type AddedTerms = Items<AddedTerm>;
 
 #[cycle(expressions)]
-#[derive(Debug, Drop)]
+#[derive(Drop)]
 pub struct Term {
     pub first: Factor,
     pub rest: MultipliedFactors,
@@ -76,7 +76,7 @@ pub struct Term {
 }
 
 #[cycle(expressions)]
-#[derive(Debug, Drop)]
+#[derive(Drop)]
 pub struct MultipliedFactor {
     pub operator: Multiplying,
     pub factor: Factor,
@@ -85,7 +85,7 @@ pub struct MultipliedFactor {
 pub type MultipliedFactors = Items<MultipliedFactor>;
 
 #[cycle(expressions)]
-#[derive(Debug, Drop)]
+#[derive(Drop)]
 pub enum Factor {
     Number {
         value: i64,
@@ -118,7 +118,7 @@ pub enum Factor {
 
 /// An element of a set constructor: a member, or the members from the first to the last.
 #[cycle(expressions)]
-#[derive(Debug, Drop)]
+#[derive(Drop)]
 pub struct Elem {
     pub first: Expr,
     pub last: Option<Boxed<Expr>>,
@@ -128,7 +128,7 @@ pub struct Elem {
 pub type Elems = Items<Elem>;
 
 #[cycle(expressions)]
-#[derive(Debug, Drop)]
+#[derive(Drop)]
 pub struct Place {
     pub name: Identifier,
     pub selectors: Selectors,
@@ -138,7 +138,7 @@ pub struct Place {
 pub type Places = Items<Place>;
 
 #[cycle(expressions)]
-#[derive(Debug, Drop)]
+#[derive(Drop)]
 pub enum Selector {
     Index { indexes: Exprs, span: Span },
     Field { name: Identifier, span: Span },
@@ -149,7 +149,7 @@ pub type Selectors = Items<Selector>;
 
 /// Arguments in parentheses.
 #[cycle(expressions)]
-#[derive(Debug, Drop)]
+#[derive(Drop)]
 pub struct Args {
     pub list: ArgList,
     pub span: Span,
@@ -157,7 +157,7 @@ pub struct Args {
 
 /// An argument, which may have a width and a number of decimals. In UCSD it may be `program`.
 #[cycle(expressions)]
-#[derive(Debug, Drop)]
+#[derive(Drop)]
 pub enum Arg {
     Value {
         value: Expr,

@@ -7,14 +7,14 @@ use p2c_text::Span;
 use tree_lists::Items;
 
 /// A program, a unit of Turbo or UCSD, or a module of HP.
-#[derive(Debug, Drop)]
+#[derive(Drop)]
 pub enum SourceFile {
     Program(Program),
     UnitText(UnitNode),
     Module(Module),
 }
 
-#[derive(Debug, Drop)]
+#[derive(Drop)]
 pub struct Head {
     pub name: Identifier,
     pub parameters: Option<Identifiers>,
@@ -22,14 +22,14 @@ pub struct Head {
 }
 
 /// The names of units after `uses`, or in HP after `import`.
-#[derive(Debug, Drop)]
+#[derive(Drop)]
 pub struct Uses {
     pub names: Identifiers,
     pub span: Span,
 }
 
 /// In Turbo the head may be absent.
-#[derive(Debug, Drop)]
+#[derive(Drop)]
 pub struct Program {
     pub head: Option<Head>,
     pub uses: Option<Uses>,
@@ -38,7 +38,7 @@ pub struct Program {
 }
 
 /// What an interface declares; the heading with its semicolon.
-#[derive(Debug, Drop)]
+#[derive(Drop)]
 pub enum Public {
     Constants(ConstPart),
     Types(TypePart),
@@ -48,7 +48,7 @@ pub enum Public {
 
 pub type Publics = Items<Public>;
 
-#[derive(Debug, Drop)]
+#[derive(Drop)]
 pub struct UnitNode {
     pub name: Identifier,
     pub interface_uses: Option<Uses>,
@@ -61,7 +61,7 @@ pub struct UnitNode {
 
 /// The imports before `export` belong to the interface, those after `implement` to the
 /// implementation.
-#[derive(Debug, Drop)]
+#[derive(Drop)]
 pub struct Module {
     pub name: Identifier,
     pub interface_uses: Option<Uses>,

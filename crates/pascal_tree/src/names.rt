@@ -3,7 +3,7 @@
 use p2c_text::{Name, Span};
 use tree_lists::Items;
 
-#[derive(Debug, Drop)]
+#[derive(Drop)]
 pub struct Identifier {
     pub name: Name,
     pub span: Span,
@@ -13,7 +13,7 @@ pub struct Identifier {
 pub type Identifiers = Items<Identifier>;
 
 /// What a statement is labelled with. In Turbo it may be a name.
-#[derive(Debug, Drop)]
+#[derive(Drop)]
 pub enum Label {
     Number { value: i64, span: Span },
     Name(Identifier),

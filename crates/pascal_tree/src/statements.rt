@@ -5,7 +5,7 @@ use p2c_text::Span;
 use tree_lists::{Boxed, Items};
 
 #[cycle(statements)]
-#[derive(Debug, Drop)]
+#[derive(Drop)]
 pub struct Stmt {
     pub label: Option<Label>,
     pub plain: Plain,
@@ -15,7 +15,7 @@ pub struct Stmt {
 /// Statements with semicolons between them.
 pub type Stmts = Items<Stmt>;
 
-#[derive(Clone, Copy, Debug, PartialEq, Eq)]
+#[derive(Clone, Copy)]
 pub enum Direction {
     Up,
     Down,
@@ -23,7 +23,7 @@ pub enum Direction {
 
 /// A statement without its label.
 #[cycle(statements)]
-#[derive(Debug, Drop)]
+#[derive(Drop)]
 pub enum Plain {
     Nothing(Span),
     Assign {
@@ -91,7 +91,7 @@ pub enum Plain {
 
 /// An arm of a `case`.
 #[cycle(statements)]
-#[derive(Debug, Drop)]
+#[derive(Drop)]
 pub struct Arm {
     pub labels: CaseLabels,
     pub body: Stmt,
@@ -102,7 +102,7 @@ pub type Arms = Items<Arm>;
 
 /// What a `case` does without a matching label: `else` in Turbo, `otherwise` in HP.
 #[cycle(statements)]
-#[derive(Debug, Drop)]
+#[derive(Drop)]
 pub struct Rest {
     pub body: Stmts,
     pub span: Span,

@@ -5,14 +5,14 @@ use p2c_text::Span;
 use tree_lists::{Boxed, Items};
 
 /// The name of a type; `string` is a word, and none in Iso.
-#[derive(Debug, Drop)]
+#[derive(Drop)]
 pub enum TypeName {
     Name(Identifier),
     String(Span),
 }
 
 #[cycle(types)]
-#[derive(Debug, Drop)]
+#[derive(Drop)]
 pub enum TypeNode {
     Structured {
         packed: bool,
@@ -43,7 +43,7 @@ pub enum TypeNode {
 pub type TypeNodes = Items<TypeNode>;
 
 #[cycle(types)]
-#[derive(Debug, Drop)]
+#[derive(Drop)]
 pub enum Struct {
     Array {
         indexes: TypeNodes,
@@ -66,7 +66,7 @@ pub enum Struct {
 
 /// The fields of a record or of a variant: the fixed part, and then the variants.
 #[cycle(types)]
-#[derive(Debug, Drop)]
+#[derive(Drop)]
 pub struct Fields {
     pub fixed: Option<Fixed>,
     pub variants: Option<Boxed<Variants>>,
@@ -76,7 +76,7 @@ pub struct Fields {
 }
 
 #[cycle(types)]
-#[derive(Debug, Drop)]
+#[derive(Drop)]
 pub struct Fixed {
     pub sections: FixedSections,
     pub span: Span,
@@ -84,7 +84,7 @@ pub struct Fixed {
 
 /// Fields of one type.
 #[cycle(types)]
-#[derive(Debug, Drop)]
+#[derive(Drop)]
 pub struct FixedSection {
     pub names: Identifiers,
     pub of: TypeNode,
@@ -95,7 +95,7 @@ pub type FixedSections = Items<FixedSection>;
 
 /// Without a name the tag is hidden.
 #[cycle(types)]
-#[derive(Debug, Drop)]
+#[derive(Drop)]
 pub struct Variants {
     pub tag: Option<Identifier>,
     pub of: TypeName,
@@ -104,7 +104,7 @@ pub struct Variants {
 }
 
 #[cycle(types)]
-#[derive(Debug, Drop)]
+#[derive(Drop)]
 pub struct Variant {
     pub labels: CaseLabels,
     pub fields: Fields,

@@ -14,7 +14,7 @@ use typed_tree::DeclId;
 type Scope = IndexMap<Name, DeclId>;
 
 /// Scopes that are open, one in another.
-#[derive(Debug, Drop)]
+#[derive(Drop)]
 pub struct Scopes {
     open: Vec<Scope>,
     alloc: Global,

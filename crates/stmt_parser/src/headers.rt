@@ -18,7 +18,7 @@ use token_parsing::refusal::{ParseError, unexpected};
 use tree_lists::{Boxed, Items};
 
 /// The values that a `for` goes through.
-#[derive(Debug, Drop)]
+#[derive(Drop)]
 pub struct Limits {
     pub first: Boxed<Expr>,
     pub direction: Direction,

@@ -5,7 +5,7 @@ ghost use Rattle.token_parsing.specs.declared.refusal.ParseError.TheVariants.{Me
 use std::alloc::AllocError;
 
 /// A refused place, by the number of tokens from it to the end.
-#[derive(Clone, Copy, Debug, PartialEq, Eq)]
+#[derive(Clone, Copy)]
 pub enum Refusal {
     /// No text begins with the tokens up to this one.
     Unexpected(usize),
@@ -13,7 +13,7 @@ pub enum Refusal {
     TooDeep(usize),
 }
 
-#[derive(Debug, Drop)]
+#[derive(Drop)]
 pub enum ParseError {
     Memory(AllocError),
     At(Refusal),

@@ -7,7 +7,7 @@ use tree_lists::Items;
 pub type DeclIds = Items<DeclId>;
 
 /// Whose activation is meant: the program's, that of a unit by its place, or a routine's.
-#[derive(Clone, Copy, Debug, PartialEq, Eq)]
+#[derive(Clone, Copy)]
 pub enum Owner {
     Program,
     UnitPart(usize),
@@ -15,14 +15,14 @@ pub enum Owner {
 }
 
 /// What is called: a routine, or a procedural parameter.
-#[derive(Clone, Copy, Debug, PartialEq, Eq)]
+#[derive(Clone, Copy)]
 pub enum Callee {
     Routine(RoutineId),
     Formal(DeclId),
 }
 
 #[cycle(formals)]
-#[derive(Debug, Drop)]
+#[derive(Drop)]
 pub enum FormalKind {
     Value(TypeId),
     Variable(TypeId),
@@ -34,7 +34,7 @@ pub enum FormalKind {
 
 /// The parameters of one section, which have one kind.
 #[cycle(formals)]
-#[derive(Debug, Drop)]
+#[derive(Drop)]
 pub struct FormalSection {
     pub decls: DeclIds,
     pub kind: FormalKind,
@@ -42,7 +42,7 @@ pub struct FormalSection {
 
 pub type FormalSections = Items<FormalSection>;
 
-#[derive(Clone, Copy, Debug, PartialEq, Eq)]
+#[derive(Clone, Copy)]
 pub struct VarDecl {
     pub decl: DeclId,
     pub of: TypeId,
@@ -50,7 +50,7 @@ pub struct VarDecl {
 
 pub type VarDecls = Items<VarDecl>;
 
-#[derive(Debug, Drop)]
+#[derive(Drop)]
 pub struct Routine {
     pub name: Name,
     pub number: RoutineId,
@@ -66,7 +66,7 @@ pub struct Routine {
 pub type Routines = Items<Routine>;
 
 /// The program's block, or the initial part of a unit.
-#[derive(Debug, Drop)]
+#[derive(Drop)]
 pub struct Body {
     pub locals: VarDecls,
     pub labels: DeclIds,
@@ -76,7 +76,7 @@ pub struct Body {
 pub type Bodies = Items<Body>;
 
 /// A typed program, with the units in the order in which they begin.
-#[derive(Debug, Drop)]
+#[derive(Drop)]
 pub struct Typed {
     pub types: Types,
     pub routines: Routines,

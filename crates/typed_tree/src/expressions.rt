@@ -7,7 +7,7 @@ use tree_lists::{Boxed, Items};
 pub type TextBytes = Items<u8>;
 
 /// What a place begins with: a variable, a `with` reference, a function's result, or `input`.
-#[derive(Clone, Copy, Debug, PartialEq, Eq)]
+#[derive(Clone, Copy)]
 pub enum Root {
     Variable { decl: DeclId, of: TypeId },
     WithRef { decl: DeclId, of: TypeId },
@@ -17,7 +17,7 @@ pub enum Root {
 
 /// An index, a field or `^`. `of` is the type after it.
 #[cycle(expressions)]
-#[derive(Debug, Drop)]
+#[derive(Drop)]
 pub enum Selector {
     Index {
         index: TypedExpr,
@@ -36,7 +36,7 @@ pub enum Selector {
 pub type Selectors = Items<Selector>;
 
 #[cycle(expressions)]
-#[derive(Debug, Drop)]
+#[derive(Drop)]
 pub struct Place {
     pub root: Root,
     pub selectors: Selectors,
@@ -44,7 +44,7 @@ pub struct Place {
 
 /// An operator and its right operand. `of` is the type after it.
 #[cycle(expressions)]
-#[derive(Debug, Drop)]
+#[derive(Drop)]
 pub struct BinaryPart {
     pub op: BinaryOp,
     pub operand: TypedExpr,
@@ -55,7 +55,7 @@ pub type BinaryParts = Items<BinaryPart>;
 
 /// A member of a set constructor, or the members from the first to the last.
 #[cycle(expressions)]
-#[derive(Debug, Drop)]
+#[derive(Drop)]
 pub struct SetElem {
     pub first: TypedExpr,
     pub last: Option<TypedExpr>,
@@ -65,7 +65,7 @@ pub type SetElems = Items<SetElem>;
 
 /// `target` is the type of the parameter; of a predefined call it is the value's own type.
 #[cycle(expressions)]
-#[derive(Debug, Drop)]
+#[derive(Drop)]
 pub enum TypedArg {
     Value {
         value: TypedExpr,
@@ -83,7 +83,7 @@ pub type TypedArgs = Items<TypedArg>;
 
 /// A literal of one character is a `Number` of type `char`.
 #[cycle(expressions)]
-#[derive(Debug, Drop)]
+#[derive(Drop)]
 pub enum TypedExpr {
     Number {
         value: i64,

@@ -1,6 +1,6 @@
 //! Operators and predefined calls.
 
-#[derive(Clone, Copy, Debug, PartialEq, Eq)]
+#[derive(Clone, Copy)]
 pub enum UnaryOp {
     Plus,
     Minus,
@@ -8,7 +8,7 @@ pub enum UnaryOp {
     BitNot,
 }
 
-#[derive(Clone, Copy, Debug, PartialEq, Eq)]
+#[derive(Clone, Copy)]
 pub enum BinaryOp {
     Add,
     Sub,
@@ -37,7 +37,7 @@ pub enum BinaryOp {
 
 /// The predefined calls, one for each name. `ExitRoutine` and `ExitProgram` are the two forms of
 /// `exit` in UCSD, `Exit` is Turbo's.
-#[derive(Clone, Copy, Debug, PartialEq, Eq)]
+#[derive(Clone, Copy)]
 pub enum PredefCall {
     Abs,
     Sqr,

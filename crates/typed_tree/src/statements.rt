@@ -7,7 +7,7 @@ use tree_lists::{Boxed, Items};
 
 /// An arm of a `case`.
 #[cycle(statements)]
-#[derive(Debug, Drop)]
+#[derive(Drop)]
 pub struct TypedArm {
     pub labels: LabelRanges,
     pub body: TypedStmt,
@@ -16,7 +16,7 @@ pub struct TypedArm {
 pub type TypedArms = Items<TypedArm>;
 
 /// A record that a `with` opens, by the reference that it makes.
-#[derive(Debug, Drop)]
+#[derive(Drop)]
 pub struct WithPart {
     pub decl: DeclId,
     pub place: Place,
@@ -26,7 +26,7 @@ pub type WithParts = Items<WithPart>;
 
 /// `of` in an `Assign` is the target's type.
 #[cycle(statements)]
-#[derive(Debug, Drop)]
+#[derive(Drop)]
 pub enum TypedStmt {
     Empty,
     Assign {

@@ -5,14 +5,14 @@ use p2c_text::{Dialect, Name};
 use tree_lists::{Boxed, Items};
 
 /// The types of a program, and the dialect that decides their meaning.
-#[derive(Debug, Drop)]
+#[derive(Drop)]
 pub struct Types {
     pub dialect: Dialect,
     pub list: PasTypes,
 }
 
 /// The type of which an ordinal type is a range. An enumeration is the place of its own type.
-#[derive(Clone, Copy, Debug, PartialEq, Eq)]
+#[derive(Clone, Copy)]
 pub enum Host {
     Whole,
     Char,
@@ -21,14 +21,14 @@ pub enum Host {
 }
 
 /// Whether a set type is packed; a set constructor is either.
-#[derive(Clone, Copy, Debug, PartialEq, Eq)]
+#[derive(Clone, Copy)]
 pub enum Packing {
     Packed,
     Unpacked,
     Either,
 }
 
-#[derive(Debug, Drop)]
+#[derive(Drop)]
 pub enum PasType {
     Ordinal {
         host: Host,
@@ -68,7 +68,7 @@ pub enum PasType {
 
 pub type PasTypes = Items<PasType>;
 
-#[derive(Debug, Drop)]
+#[derive(Drop)]
 pub struct FieldDecl {
     pub name: Name,
     pub decl: DeclId,
@@ -79,7 +79,7 @@ pub type FieldDecls = Items<FieldDecl>;
 
 /// The variants of a record. Without a name the tag is hidden.
 #[cycle(variants)]
-#[derive(Debug, Drop)]
+#[derive(Drop)]
 pub struct VariantPart {
     pub tag: DeclId,
     pub name: Option<Name>,
@@ -88,7 +88,7 @@ pub struct VariantPart {
 }
 
 #[cycle(variants)]
-#[derive(Debug, Drop)]
+#[derive(Drop)]
 pub struct VariantArm {
     pub labels: LabelRanges,
     pub fields: FieldDecls,
@@ -98,7 +98,7 @@ pub struct VariantArm {
 pub type VariantArms = Items<VariantArm>;
 
 /// The values from the first to the last.
-#[derive(Clone, Copy, Debug, PartialEq, Eq)]
+#[derive(Clone, Copy)]
 pub struct LabelRange {
     pub first: i64,
     pub last: i64,

@@ -10,7 +10,7 @@ use crate::marks::{enter, no_marks};
 use std::alloc::{AllocError, Global};
 
 /// Which files were entered, and the path to where the search is.
-#[derive(Debug, Drop)]
+#[derive(Drop)]
 struct Search {
     marks: Vec<bool>,
     path: Vec<usize>,

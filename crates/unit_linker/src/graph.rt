@@ -6,7 +6,7 @@ ghost use Rattle.unit_linker.specs.Graph as spec;
 use tree_lists::Items;
 
 /// What a file uses. A program has all its uses in `interface`.
-#[derive(Debug, Drop)]
+#[derive(Drop)]
 pub struct FileUses {
     pub interface: Items<usize>,
     pub implementation: Items<usize>,

@@ -23,7 +23,7 @@ use std::alloc::{AllocError, Global};
 use tree_lists::Items;
 
 /// A program with the units that it needs, in their order.
-#[derive(Debug, Drop)]
+#[derive(Drop)]
 pub struct Linked {
     pub program: SourceFile,
     pub units: Vec<SourceFile>,

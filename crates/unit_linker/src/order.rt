@@ -9,7 +9,7 @@ use crate::marks::{enter, no_marks};
 use std::alloc::{AllocError, Global};
 
 /// Which files were entered, and the order so far.
-#[derive(Debug, Drop)]
+#[derive(Drop)]
 struct Walk {
     marks: Vec<bool>,
     order: Vec<usize>,
