@@ -1,5 +1,5 @@
 -- What the steps of a machine tell.
-use Rattle.std.proofs.Common.{◌≡◌, ◌≢◌, ℕ, Bool, true, false, List, [], ◌∷◌, ◌++◌, length, Option, Some, None, Err, refl, sym, ap, subst, ◌∙◌, ◌<◌, inl, inr, append_assoc, arith}
+use Rattle.std.proofs.Common.{◌≡◌, ◌≢◌, ℕ, Bool, true, false, List, [], ◌∷◌, ◌++◌, length, take, Option, Some, None, Err, refl, sym, ap, subst, ◌∙◌, ◌<◌, inl, inr, append_assoc, arith}
 use Rattle.std.proofs.lemmas.List.{append-nil}
 use Rattle.c_tree.specs.declared.program.CProgram.{CProgram}
 use Rattle.c_meaning.specs.States.{State}
@@ -9,10 +9,10 @@ use Rattle.c_cells.specs.declared.halt.Halt.TheVariants as h
 use Rattle.p2c_outside.specs.Told as o
 use Rattle.p2c_outside.specs.Told.{Gains, IsEmpty}
 use Rattle.held_bytes.proofs.ToldLemmas.{Gains-refl, Gains-append, GainsPart-second}
-use Rattle.held_bytes.specs.Held.{bytes_in, first_of, rest_of}
+use Rattle.held_bytes.specs.Held.{bytes_in, IsDry, first_of, rest_of}
 use Rattle.c_stepper.specs.Runners.{state_of, AsksForByte, Seeks, Acts}
 use Rattle.held_bytes.specs.declared.output.HeldOutput.{HeldOutput}
-use Rattle.c_stepper.specs.Machines.{stood, Dashes, Goes, Steps, AreFew, Takes}
+use Rattle.c_stepper.specs.Machines.{stood, Dashes, Goes, Steps, AreFew, PutsFirst, Takes}
 use Rattle.c_stepper.proofs.Counting.{none_more, step_once}
 use Rattle.c_stepper.specs.declared.runner.Runner.{Runner}
 use Rattle.c_stepper.specs.declared.machine.Machine.{Machine}
@@ -108,6 +108,17 @@ told_step c old new (Some a) (Some b) w w' r l output calls t is over count =
     let same : a ≡ l = cc in
     subst (λ (x : List ℕ). Steps c old.output.bytes.items old.calls new (Some b) w w' output calls r (CStep c (stood c old x output calls))) (sym t.loses ∙ same) (t.step b output calls over count)
 
+-- each step puts something, or nothing
+pub gained : (c : CProgram) (held : List ℕ) (count : ℕ) (new : Machine) (left' w w' : Option (List ℕ)) (output calls : List ℕ) (r : Stepped) (next : Next)
+    → Steps c held count new left' w w' output calls r next → (put : List ℕ) × Gains w w' put
+gained c held count new left' w w' output calls s.Going next g = (g.put.sent, g.put.put)
+gained c held count new left' w w' output calls (s.Ended status) next g = (held, g.2)
+gained c held count new left' w w' output calls (s.Stuck kind) next g = (held, g.1)
+gained c held count new left' w w' output calls s.InputFault next g = (held, g)
+gained c held count new left' w w' output calls (s.Memory e) next g = (held, g)
+gained c held count new left' w w' output calls s.OutputFault next (inl g) = (take g.0 held, g.2)
+gained c held count new left' w w' output calls s.OutputFault next (inr g) = let part = g.2 in (take part.0 (held ++ g.0), part.2)
+
 -- a step that takes nothing
 pub takes_none : (c : CProgram) (old new : Machine) (left w w' : Option (List ℕ)) (r : Stepped)
     → ((rest output calls : List ℕ) → (new.input.over ≡ true → rest ≡ []) → length calls ≡ old.calls → Steps c old.output.bytes.items old.calls new (Some rest) w w' output calls r (CStep c (stood c old rest output calls)))
@@ -121,6 +132,7 @@ takes_none c old new left w w' r step ends few served other = record {
   ends = λ h. (refl, ends h);
   few = λ rest output calls. inl (subst (λ (l : List ℕ). length l < 4096) (sym (append-nil (bytes_in old.input))) few);
   served = λ going before rest output calls asks e. served going before rest output calls asks (sym (append-nil (bytes_in old.input)) ∙ e);
+  put_first = inl refl;
   wants = λ h. absurd (other h);
 }
 
@@ -144,6 +156,14 @@ takes_as c old same new left left' w w' r state input output calls t =
           (subst (λ (l : List ℕ). AreFew c (stood c same (t.taken ++ rest) o k) (l ++ t.taken)) (ap bytes_in input) (t.few rest o k));
       served = λ going before rest o k asks e.
           t.served going before rest o k (subst (AsksForByte c) (sym (at (t.taken ++ rest) o k)) asks) (ap (λ (l : List ℕ). l ++ t.taken) (ap bytes_in input) ∙ e);
+      put_first = elim t.put_first [
+        | inl none ↦ inl none
+        | inr p ↦ inr (record {
+          dry = subst IsDry input p.dry;
+          asks = λ rest o k. subst (AsksForByte c) (at rest o k) (p.asks rest o k);
+          put = λ k count. subst (λ (l : List ℕ). (more : List ℕ) × Gains w w' (l ++ more)) held (p.put k (count ∙ sym calls));
+        })
+      ];
       wants = λ h.
           let q = t.wants h in
           (ap (λ i. i.over) (sym input) ∙ q.0, ap bytes_in (sym input) ∙ q.1, q.2, λ rest o k. subst (AsksForByte c) (at rest o k) (q.3 rest o k));

@@ -1,5 +1,5 @@
 -- What a run tells, by what its steps tell.
-use Rattle.std.proofs.Common.{◌≡◌, ◌≢◌, ℕ, Bool, true, false, zero, suc, ◌+◌, ◌≤◌, ◌<◌, List, [], ◌∷◌, ◌++◌, length, Option, Some, None, refl, sym, ap, subst, ◌∙◌, append_assoc, inl, inr, ◌⊎◌, arith}
+use Rattle.std.proofs.Common.{◌≡◌, ◌≢◌, ℕ, Bool, true, false, zero, suc, ◌+◌, ◌≤◌, ◌<◌, List, [], ◌∷◌, ◌++◌, length, take, Option, Some, None, refl, sym, ap, subst, ◌∙◌, append_assoc, inl, inr, ◌⊎◌, arith}
 use Rattle.std.proofs.lemmas.List.{append-nil}
 use Rattle.c_tree.specs.declared.program.CProgram.{CProgram}
 use Rattle.c_meaning.specs.declared.StuckKind.{StuckKind}
@@ -9,6 +9,7 @@ use Rattle.c_meaning.specs.Runs as m
 use Rattle.c_meaning.specs.Runs.{start, run_from, answer_of, CRun}
 use Rattle.c_meaning.proofs.Later.{run_on, final_stays}
 use Rattle.c_stepper.proofs.Counting.{none_more, one_more}
+use Rattle.c_stepper.proofs.Machining.{gained}
 use Rattle.p2c_outside.specs.Counts.{Rose}
 use Rattle.p2c_outside.specs.Told as o
 use Rattle.p2c_outside.specs.Told.{Gains, IsEmpty}
@@ -17,7 +18,7 @@ use Rattle.held_bytes.proofs.ToldLemmas.{Gains-refl, Gains-append, GainsPart-sec
 use Rattle.held_bytes.specs.declared.output.HeldOutput.{HeldOutput}
 use Rattle.held_bytes.specs.Held.{bytes_in}
 use Rattle.c_stepper.specs.Runners.{AsksForByte}
-use Rattle.c_stepper.specs.Machines.{stood, Begins, Dashes, Goes, Steps, Takes, output_at, Reaches, told, CutShort, IsAfter, MeetsNoEnd, WantsInput, TakesFew, Ran, TakeFaults, PutFaults, RunFaults, ended_by}
+use Rattle.c_stepper.specs.Machines.{stood, Begins, Dashes, Goes, Steps, Takes, output_at, Reaches, told, CutShort, IsAfter, MeetsNoEnd, WantsInput, TakesFew, PutsFirst, PutBefore, PutBeforeTaken, Ran, TakeFaults, PutFaults, RunFaults, ended_by}
 use Rattle.c_stepper.specs.declared.machine.Machine.{Machine}
 use Rattle.c_stepper.specs.declared.machine.Stepped.{Stepped}
 use Rattle.c_stepper.specs.declared.machine.Stepped.TheVariants as s
@@ -254,6 +255,29 @@ loses_both (Some x) None left'' a b p q = absurd p
 loses_both (Some x) (Some y) None a b p q = absurd q
 loses_both (Some x) (Some y) (Some z) a b p q = p ∙ ap (λ l. a ++ l) q ∙ sym (append_assoc a b z)
 
+same_left : (left left' : Option (List ℕ)) → o.Loses left left' [] → left' ≡ left
+same_left None None h = refl
+same_left None (Some y) h = absurd h
+same_left (Some x) None h = absurd h
+same_left (Some x) (Some y) h = ap Some (sym h)
+
+-- where more is put, what was written when bytes were taken was put before
+more_put : (c : CProgram) (bytes : List ℕ) (left : Option (List ℕ)) (most : ℕ) (w w1 w2 : Option (List ℕ)) (put : List ℕ) → Gains w1 w2 put → PutBefore c bytes left most w w1 → PutBefore c bytes left most w w2
+more_put c bytes left most w w1 w2 put g p = record {
+  before = p.before;
+  piece = p.piece;
+  loses = p.loses;
+  steps = p.steps;
+  within = p.within;
+  state = p.state;
+  is = p.is;
+  asks = p.asks;
+  used_up = p.used_up;
+  first = p.first;
+  more = p.more ++ put;
+  put = let st = p.state in subst (Gains w w2) (append_assoc st.output p.more put) (Gains-append w w1 w2 (st.output ++ p.more) put p.put g);
+}
+
 front_none : (a b : List ℕ) → a ++ b ≡ [] → a ≡ []
 front_none [] b h = refl
 front_none (x ∷ a) b h = cc
@@ -349,6 +373,48 @@ module _ (c : CProgram) (bytes : List ℕ) (old new : Machine) (left0 left1 w w1
       few = t.few l1 here.output here.calls;
     }
 
+  -- ---- what is put before bytes are taken
+
+  -- the step takes nothing
+  taken_none : t.taken ≡ [] → left1 ≡ left0
+  taken_none none = same_left left0 left1 (subst (o.Loses left0 left1) none t.loses)
+
+  -- what the step puts
+  put_now : (put : List ℕ) × Gains w1 w2 put
+  put_now =
+      let h = stood_before [] (λ e. refl) in
+      gained c old.output.bytes.items old.calls new (Some []) w1 w2 h.output h.calls answer (CStep c (stood c old (t.taken ++ []) h.output h.calls)) (t.step [] h.output h.calls (λ e. refl) h.count)
+
+  put_on : (most : ℕ) → PutBeforeTaken c bytes left0 most w w1 → PutBeforeTaken c bytes left0 most w w2
+  put_on most (inl none) = inl none
+  put_on most (inr p) = inr (more_put c bytes left0 most w w1 w2 put_now.0 put_now.1 p)
+
+  put_here : (most : ℕ) → old.taken + 1 ≤ most → PutsFirst c old w1 w2 → PutBefore c bytes left1 most w w2
+  put_here most within q =
+      let h = a.stands [] (λ e. refl) in
+      let dry = q.dry in
+      let (more, put) = q.put h.calls h.count in
+      record {
+        before = a.taken;
+        piece = t.taken;
+        loses = loses_both (Some bytes) left0 left1 a.taken t.taken a.loses t.loses;
+        steps = old.taken;
+        within = omega (arith, within);
+        state = stood c old [] h.output h.calls;
+        is = subst (λ (l : List ℕ). IsAfter c l old.taken (stood c old [] h.output h.calls)) (append-nil a.taken) h.run;
+        asks = q.asks [] h.output h.calls;
+        used_up = append-nil (bytes_in old.input) ∙ dry.empty;
+        first = subst (λ (l : List ℕ). MeetsNoEnd c l old.taken) (append-nil a.taken) (a.served dry.going []);
+        more = more;
+        put = subst (Gains w w2) (sym (append_assoc h.sent old.output.bytes.items more) ∙ ap (λ l. l ++ more) (sym h.is)) (Gains-append w w1 w2 h.sent (old.output.bytes.items ++ more) h.put put);
+      }
+
+  pub put_before_taken : (most : ℕ) → old.taken + 1 ≤ most → PutBeforeTaken c bytes left0 most w w1 → PutBeforeTaken c bytes left1 most w w2
+  put_before_taken most within p = elim t.put_first [
+    | inl none ↦ subst (λ (l : Option (List ℕ)). PutBeforeTaken c bytes l most w w2) (sym (taken_none none)) (put_on most p)
+    | inr q ↦ inr (put_here most within q)
+  ]
+
 -- the bytes that are left are told
 told_left : (left0 left1 : Option (List ℕ)) (bytes front taken : List ℕ) → o.Loses (Some bytes) left0 front → o.Loses left0 left1 taken → (l1 : List ℕ) × (left0 ≡ Some (taken ++ l1)) × (left1 ≡ Some l1)
 told_left None left1 bytes front taken p q = absurd p
@@ -370,6 +436,14 @@ module _ (c : CProgram) (bytes : List ℕ) (old new : Machine) (left0 left1 w w1
   takes_few = told_few c bytes old new left0 left1 w w1 w2 answer a t l.0 l.1 l.2 over_left most (omega (arith, within))
 
 -- ---- the steps are done
+
+put_at_end : (X Y Z : Type 0) (w w' : Option (List ℕ)) (held : List ℕ) (r : e.Ended) → (r ≢ v.OutputFault → X × Gains w w' held × Y) → (r ≡ v.OutputFault → GainsPart w w' held × Z) → (put : List ℕ) × Gains w w' put
+put_at_end X Y Z w w' held v.OutputFault good bad = let part = (bad refl).0 in (take part.0 held, part.2)
+put_at_end X Y Z w w' held v.Spent good bad = (held, (good (λ e. cc)).1)
+put_at_end X Y Z w w' held (v.Status status calls) good bad = (held, (good (λ e. cc)).1)
+put_at_end X Y Z w w' held (v.Stuck kind) good bad = (held, (good (λ e. cc)).1)
+put_at_end X Y Z w w' held v.InputFault good bad = (held, (good (λ e. cc)).1)
+put_at_end X Y Z w w' held (v.Memory x) good bad = (held, (good (λ e. cc)).1)
 
 left_told : (left : Option (List ℕ)) (bytes taken : List ℕ) → o.Loses (Some bytes) left taken → (l : List ℕ) × (left ≡ Some l) × (bytes ≡ taken ++ l)
 left_told None bytes taken p = absurd p
@@ -395,3 +469,9 @@ module _ (c : CProgram) (bytes : List ℕ) (old : Machine) (left w w1 w2 : Optio
     loses = subst (λ (x : Option (List ℕ)). o.Loses (Some (bytes_in old.input ++ rest_told.0)) x (bytes_in old.input)) (sym rest_told.1) refl;
     few = inl few;
   }
+
+  -- the rest of what is held is put, or a part of it
+  pub last_put_before : (most : ℕ) (X Y Z : Type 0) (r : e.Ended) → (r ≢ v.OutputFault → X × Gains w1 w2 old.output.bytes.items × Y) → (r ≡ v.OutputFault → GainsPart w1 w2 old.output.bytes.items × Z)
+      → PutBeforeTaken c bytes left most w w1 → PutBeforeTaken c bytes left most w w2
+  last_put_before most X Y Z r good bad (inl none) = inl none
+  last_put_before most X Y Z r good bad (inr p) = let (put, g) = put_at_end X Y Z w1 w2 old.output.bytes.items r good bad in inr (more_put c bytes left most w w1 w2 put g p)

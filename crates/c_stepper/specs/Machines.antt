@@ -9,7 +9,7 @@ use Rattle.p2c_outside.specs.Counts.{Rose}
 use Rattle.p2c_outside.specs.Told as o
 use Rattle.p2c_outside.specs.Told.{Gains}
 use Rattle.held_bytes.specs.Written.{GainsPart}
-use Rattle.held_bytes.specs.Held.{bytes_in, Moves}
+use Rattle.held_bytes.specs.Held.{bytes_in, IsDry, Moves}
 use Rattle.c_stepper.specs.Runners.{FitsFrames, state_of, AsksForByte}
 use Rattle.c_stepper.specs.declared.machine.Machine.{Machine}
 use Rattle.c_stepper.specs.declared.machine.Stepped.{Stepped}
@@ -91,6 +91,12 @@ Steps c held count new left' w w' output calls (s.Memory e) next = Gains w w' he
 abbrev pub AreFew : CProgram → State → List ℕ → Type 0
 AreFew c st ahead = (length ahead < 4096) ⊎ ((length ahead ≤ 4096) × AsksForByte c st)
 
+-- a byte is wanted where none is held, and what was held is put
+pub record PutsFirst (c : CProgram) (old : Machine) (w w' : Option (List ℕ)) : Type 0 where
+  pub dry : IsDry old.input
+  pub asks : (rest output calls : List ℕ) → AsksForByte c (stood c old rest output calls)
+  pub put : (calls : List ℕ) → length calls ≡ old.calls → (more : List ℕ) × Gains w w' (old.output.bytes.items ++ more)
+
 -- what a step tells of the bytes that it takes, whatever comes after them
 pub record Takes (c : CProgram) (old new : Machine) (left left' w w' : Option (List ℕ)) (result : Stepped) : Type 0 where
   pub taken : List ℕ
@@ -102,6 +108,8 @@ pub record Takes (c : CProgram) (old new : Machine) (left left' w w' : Option (L
   pub few : (rest output calls : List ℕ) → AreFew c (stood c old (taken ++ rest) output calls) (bytes_in old.input ++ taken)
   -- before the end each byte that is asked for is there
   pub served : result ≡ s.Going → new.input.over ≡ false → (rest output calls : List ℕ) → AsksForByte c (stood c old (taken ++ rest) output calls) → bytes_in old.input ++ taken ≢ []
+  -- bytes are taken only where one is wanted, and what was held is put before
+  pub put_first : (taken ≡ []) ⊎ PutsFirst c old w w'
   -- what is wanted is a byte
   pub wants : result ≡ s.InputFault → (old.input.over ≡ false) × (bytes_in old.input ≡ []) × (taken ≡ []) × ((rest output calls : List ℕ) → AsksForByte c (stood c old rest output calls))
 
@@ -192,6 +200,26 @@ pub record TakesFew (c : CProgram) (input : List ℕ) (left' : Option (List ℕ)
   pub ahead : List ℕ
   pub loses : o.Loses (Some state.input) left' ahead
   pub few : AreFew c state ahead
+
+-- All that a program writes is put before more input is taken: `piece` was taken last, and by then the
+-- run on the bytes before it had come, for the first time, to ask for a byte more than these.
+pub record PutBefore (c : CProgram) (input : List ℕ) (left' : Option (List ℕ)) (most : ℕ) (written written' : Option (List ℕ)) : Type 0 where
+  pub before : List ℕ
+  pub piece : List ℕ
+  pub loses : o.Loses (Some input) left' (before ++ piece)
+  pub steps : ℕ
+  pub within : steps < most
+  pub state : State
+  pub is : IsAfter c before steps state
+  pub asks : AsksForByte c state
+  pub used_up : state.input ≡ []
+  pub first : MeetsNoEnd c before steps
+  pub more : List ℕ
+  pub put : Gains written written' (state.output ++ more)
+
+-- nothing was taken of the input, or what was written by then was put before
+abbrev pub PutBeforeTaken : CProgram → (input : List ℕ) → (left' : Option (List ℕ)) → (most : ℕ) → (written written' : Option (List ℕ)) → Type 0
+PutBeforeTaken c input left' most w w' = (left' ≡ Some input) ⊎ PutBefore c input left' most w w'
 
 -- what a run tells by its answer
 abbrev pub Ran : CProgram → (input : List ℕ) → (left' : Option (List ℕ)) → ℕ → (written written' : Option (List ℕ)) → e.Ended → Type 0

@@ -8,7 +8,7 @@ ghost use Rattle.held_bytes.specs.Written.{GainsPart};
 ghost use Rattle.held_bytes.specs.Held.{bytes_in, IsDry};
 ghost use Rattle.c_stepper.specs.Quick.{NextAt, ReadsNot};
 ghost use Rattle.c_stepper.specs.Runners.{FitsFrames, IsSettled, statement_at, reads_in, reads_here, Acts};
-ghost use Rattle.c_stepper.specs.Machines.{stood, IsFor, Begins, StandsAs, Dashes, Steps, Takes, Closes, Writes, IsOver, SameBut, PutFaults, TakeFaults, RunFaults, Ran, TakesFew, HasStatus, ended_by};
+ghost use Rattle.c_stepper.specs.Machines.{stood, IsFor, Begins, StandsAs, Dashes, Steps, Takes, Closes, Writes, IsOver, SameBut, PutFaults, TakeFaults, RunFaults, Ran, TakesFew, PutBeforeTaken, HasStatus, ended_by};
 
 use crate::act::reads;
 use crate::quick::{Dashed, quick_steps};
@@ -487,6 +487,8 @@ fn run_from<I: Source, O: Sink>(
     requires begins { Begins program.now machine }
     ensures ran { (bytes : List ℕ) → I.left input.old ≡ Some bytes → Ran program.now bytes (I.left input.new) steps (O.written out.old) (O.written out.new) result }
     ensures ahead { (bytes : List ℕ) → I.left input.old ≡ Some bytes → TakesFew program.now bytes (I.left input.new) steps }
+    // all that the program writes is put before more input is taken
+    ensures put { (bytes : List ℕ) → I.left input.old ≡ Some bytes → PutBeforeTaken program.now bytes (I.left input.new) steps (O.written out.old) (O.written out.new) }
     ensures faults { RunFaults (I.faults input.old) (I.faults input.new) (O.faults out.old) (O.faults out.new) result }
     ensures status { HasStatus result }
 {
@@ -515,6 +517,8 @@ pub fn run<I: Source, O: Sink>(
 ) -> Ended
     ensures ran { (bytes : List ℕ) → I.left input.old ≡ Some bytes → Ran program.now bytes (I.left input.new) steps (O.written out.old) (O.written out.new) result }
     ensures ahead { (bytes : List ℕ) → I.left input.old ≡ Some bytes → TakesFew program.now bytes (I.left input.new) steps }
+    // all that the program writes is put before more input is taken
+    ensures put { (bytes : List ℕ) → I.left input.old ≡ Some bytes → PutBeforeTaken program.now bytes (I.left input.new) steps (O.written out.old) (O.written out.new) }
     ensures faults { RunFaults (I.faults input.old) (I.faults input.new) (O.faults out.old) (O.faults out.new) result }
     ensures status { HasStatus result }
 {

@@ -44,10 +44,6 @@ fn on_devices(rt: HostRuntime, words: &Words) -> u8 {
         output: rt.stderr(),
         faults: 0,
     };
-    let mut files = RealFiles {
-        runtime: rt,
-        missing: 0,
-        faults: 0,
-    };
+    let mut files = RealFiles::new(rt, alloc);
     p2c(alloc, words, &mut files, &mut input, &mut out, &mut err)
 }

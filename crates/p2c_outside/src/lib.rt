@@ -8,8 +8,6 @@ mod memory_source;
 mod outside;
 mod pieces;
 mod system;
-#[cfg(test)]
-mod tests;
 
 pub use calm::{CalmSink, CalmSource};
 pub use memory_files::MemoryFiles;

@@ -5,6 +5,7 @@ ghost use Rattle.std.specs.Io.KnownBytes.{Appends, ReadConsumes};
 ghost use Rattle.p2c_outside.specs.Counts.{next_count};
 
 use crate::outside::{Failed, FileFault, Files, Sink, Source};
+use std::alloc::Global;
 use std::io::{ErrorKind, Read, Seek, SeekFrom, Write};
 use std::{fs, rt};
 
@@ -24,14 +25,41 @@ pub struct StdSink<W> {
     pub faults: u64,
 }
 
-/// The files that the runtime reaches.
+/// A file that is open, and where the next read of it begins.
 #[derive(Drop)]
-pub struct RealFiles<R> {
-    pub runtime: R,
+struct Opened<F> {
+    name: String,
+    at: u64,
+    file: F,
+}
+
+/// The files that the runtime reaches. A file stays open between its reads where each begins at the
+/// end of the one before; at most one is open.
+#[derive(Drop)]
+pub struct RealFiles<R: rt::Files> {
+    runtime: R,
+    alloc: Global,
+    opened: Option<Opened<R::File>>,
     /// How many calls found no file. The count stops at its last value.
     pub missing: u64,
     /// How many calls failed. The count stops at its last value.
     pub faults: u64,
+}
+
+impl<R: rt::Files> RealFiles<R> {
+    /// No file is open yet, and no call was made.
+    pub fn new(runtime: R, alloc: Global) -> RealFiles<R>
+        ensures none_missing { result.missing ≡ 0 }
+        ensures no_fault { result.faults ≡ 0 }
+    {
+        RealFiles {
+            runtime,
+            alloc,
+            opened: None,
+            missing: 0,
+            faults: 0,
+        }
+    }
 }
 
 /// Reads once, and again where a signal interrupts the read.
@@ -107,22 +135,66 @@ impl<W: Write> Sink for StdSink<W> {
     }
 }
 
-fn read_file<R: rt::Files>(
-    runtime: &R,
-    name: &str,
-    at: u64,
-    into: &mut [u8],
-) -> Result<usize, FileFault>
-    ensures { IfOk result (λ n. n ≤ length into.new) }
-{
+/// Opens a file, to be read from this place on.
+fn open_at<R: rt::Files>(runtime: &R, name: &str, at: u64) -> Result<R::File, FileFault> {
     let mut file = match fs::open(runtime, name) {
         Ok(file) => file,
         Err(error) if error.kind() == ErrorKind::NotFound => return Err(FileFault::Missing),
         Err(_) => return Err(FileFault::Failed),
     };
-    match file.seek(SeekFrom::Start(at)) {
-        Ok(_) => read_some(&mut file, into).map_err(|_| FileFault::Failed),
-        Err(_) => Err(FileFault::Failed),
+    if at > 0 && file.seek(SeekFrom::Start(at)).is_err() {
+        return Err(FileFault::Failed);
+    }
+    Ok(file)
+}
+
+/// The file that is open, where it has this name and its next read begins at this place.
+fn reopened<F: Drop>(opened: Option<Opened<F>>, name: &str, at: u64) -> Option<F> {
+    let Opened {
+        name: open,
+        at: next,
+        file,
+    } = opened?;
+    if next == at && open.as_str() == name {
+        Some(file)
+    } else {
+        None
+    }
+}
+
+/// The file, to be read on behind `count` bytes; none where its end was met, or memory is wanting for
+/// its name.
+fn kept_open<F: Drop>(
+    alloc: Global,
+    name: &str,
+    at: u64,
+    count: usize,
+    file: F,
+) -> Option<Opened<F>> {
+    let at = at.checked_add(count as u64)?;
+    if count == 0 {
+        return None;
+    }
+    let name = String::from_str(alloc, name).ok()?;
+    Some(Opened { name, at, file })
+}
+
+impl<R: rt::Files> RealFiles<R> {
+    /// Reads on in the file that is open, or opens the file.
+    fn read_on(&mut self, name: &str, at: u64, into: &mut [u8]) -> Result<usize, FileFault>
+        ensures within { IfOk result (λ n. n ≤ length into.new) }
+        ensures missing { self.new.missing ≡ self.old.missing }
+        ensures faults { self.new.faults ≡ self.old.faults }
+    {
+        let mut file = match reopened(self.opened.take(), name, at) {
+            Some(file) => file,
+            None => open_at(&self.runtime, name, at)?,
+        };
+        let Ok(count) = read_some(&mut file, into) else {
+            return Err(FileFault::Failed);
+        };
+        self.opened = kept_open(self.alloc, name, at, count, file);
+        Ok(count)
     }
 }
 
@@ -149,7 +221,7 @@ impl<R: rt::Files> Files for RealFiles<R> {
 
         ensures within { IfOk result (λ n. n ≤ length into.new) }
     {
-        let given = read_file(&self.runtime, name, at, into);
+        let given = self.read_on(name, at, into);
         match given {
             Ok(_) => {}
             Err(FileFault::Missing) => self.missing = self.missing.saturating_add(1),

@@ -4,7 +4,7 @@ use Rattle.std.specs.Bool.{⊤}
 use Rattle.p2c_outside.specs.Counts.{Rose}
 use Rattle.p2c_outside.specs.Told.{Named}
 use Rattle.p2c_top.specs.Answers.{Answer, AnswersTo, Counts, RunInput, Stays, TranslationAnswer, RunAnswer, IsEarly, IsMissing, LacksOne}
-use Rattle.p2c_top.specs.Executed.{AsksForText, CutsOff, EndsWith, IsOfRun, MayExecutePart, MayTake, NotRun, OfFile, ReadFails}
+use Rattle.p2c_top.specs.Executed.{AsksForText, CutsOff, EndsWith, IsOfRun, MayExecutePart, MayPutBefore, MayTake, NotRun, OfFile, ReadFails}
 use Rattle.p2c_top.specs.Messages.{file_of, message_of, status_of}
 use Rattle.p2c_top.specs.Translated.{AsksForAccepted, Refused, Translates, TranslatesPart}
 use Rattle.p2c_text.specs.declared.dialect.Dialect.{Dialect}
@@ -177,21 +177,22 @@ run_read_fault R S K P a (inr y) = inr (a, y.0)
 
 -- what the run of a task tells of its input
 abbrev OfInput : (failed taken kept same : Type 0) → Option Named → (input input' old new : Option (List ℕ)) → Outcome → Option Task → Type 0
-OfInput failed taken kept same told input input' old new o (Some (Running steps name)) = (o ≡ ReadFault → ReadFails failed taken kept told name steps input input' old new) × MayTake same told name steps input input'
+OfInput failed taken kept same told input input' old new o (Some (Running steps name)) = (o ≡ ReadFault → ReadFails failed taken kept told name steps input input' old new) × MayTake same told name steps input input' × MayPutBefore same told name steps input input' old new
 OfInput failed taken kept same told input input' old new o _ = ⊤
 
 pub run_input : {failed taken kept same : Type 0} (told : Option Named) (steps : ℕ) (name : List ℕ) (input input' old new : Option (List ℕ)) (o : Outcome)
-    → (o ≡ ReadFault → ReadFails failed taken kept told name steps input input' old new) → MayTake same told name steps input input' → RunInput (Some (Running steps name)) failed taken kept same told input input' old new o
-run_input {failed = failed} {taken = taken} {kept = kept} {same = same} told steps name input input' old new o fails takes = record {
-  fault = λ n other is. (subst (λ t. OfInput failed taken kept same told input input' old new o t) is (fails, takes)).0;
-  few = λ n other is. (subst (λ t. OfInput failed taken kept same told input input' old new o t) is (fails, takes)).1;
+    → (o ≡ ReadFault → ReadFails failed taken kept told name steps input input' old new) → MayTake same told name steps input input' → MayPutBefore same told name steps input input' old new → RunInput (Some (Running steps name)) failed taken kept same told input input' old new o
+run_input {failed = failed} {taken = taken} {kept = kept} {same = same} told steps name input input' old new o fails takes puts = record {
+  fault = λ n other is. (subst (λ t. OfInput failed taken kept same told input input' old new o t) is (fails, takes, puts)).0;
+  few = λ n other is. (subst (λ t. OfInput failed taken kept same told input input' old new o t) is (fails, takes, puts)).1;
+  put = λ n other is. (subst (λ t. OfInput failed taken kept same told input input' old new o t) is (fails, takes, puts)).2;
 }
 
 -- nothing was taken, and no run failed to read
 pub no_run_input : {failed taken kept same : Type 0} (told : Option Named) (task : Option Task) (input input' old new : Option (List ℕ)) (o : Outcome) → ((IsRunning task → ⊥) ⊎ (o ≢ ReadFault)) → same
     → RunInput task failed taken kept same told input input' old new o
-no_run_input told task input input' old new o (inl none) kept = record { fault = λ steps name is e. absurd (none (subst IsRunning (sym is) tt)); few = λ steps name is. inl kept }
-no_run_input told task input input' old new o (inr none) kept = record { fault = λ steps name is e. absurd (none e); few = λ steps name is. inl kept }
+no_run_input told task input input' old new o (inl none) kept = record { fault = λ steps name is e. absurd (none (subst IsRunning (sym is) tt)); few = λ steps name is. inl kept; put = λ steps name is. inl kept }
+no_run_input told task input input' old new o (inr none) kept = record { fault = λ steps name is e. absurd (none e); few = λ steps name is. inl kept; put = λ steps name is. inl kept }
 
 -- ---- the line on standard error
 

@@ -12,7 +12,7 @@ use Rattle.p2c_outside.specs.Counts.{Rose}
 use Rattle.p2c_outside.specs.Told.{Named, WhereTold, Gains}
 use Rattle.run_core.specs.Answers.{IsRun}
 use Rattle.p2c_top.specs.Answers.{RunAnswer, IsEarly, IsMissing}
-use Rattle.p2c_top.specs.Executed.{Executes, ExecutesPart, InputFails, CutsOff, OfFile, ReadFails, TakesOnly, ended_as, outcome_of_run}
+use Rattle.p2c_top.specs.Executed.{Executes, ExecutesPart, InputFails, CutsOff, OfFile, PutsBefore, ReadFails, TakesOnly, ended_as, outcome_of_run}
 use Rattle.p2c_top.specs.Reading.{Lacks, outcome_of}
 use Rattle.p2c_top.specs.declared.reading.ReadRefusal.{ReadRefusal}
 use Rattle.p2c_top.specs.declared.reading.ReadRefusal.TheVariants as reading
@@ -97,6 +97,12 @@ pub taken_only : {kept : Type 0} (bytes : List ℕ) (steps : ℕ) (input left' o
     → kept ⊎ TakesOnly bytes steps input left'
 taken_only bytes steps input left' old new (Ok ended) run kept = inr (record { program = run.program; text = run.text; few = run.ahead })
 taken_only bytes steps input left' old new (Err f) run kept = inl kept
+
+-- and what is written is put before more is taken
+pub puts_before : {kept : Type 0} (bytes : List ℕ) (steps : ℕ) (input left' old new : Option (List ℕ)) (a : Result e.Ended CTextFault) → IfOk a (IsRun bytes steps input left' old new) → IfErr a (λ f. kept)
+    → kept ⊎ PutsBefore bytes steps input left' old new
+puts_before bytes steps input left' old new (Ok ended) run kept = inr (record { program = run.program; text = run.text; put = run.put })
+puts_before bytes steps input left' old new (Err f) run kept = inl kept
 
 pub kept_input : {I O : Type 0} (input input' : I) (out out' : O) (a : Result e.Ended CTextFault) → IfErr a (λ f. (input' ≡ input) × (out' ≡ out)) → IfErr a (λ f. input' ≡ input)
 kept_input input input' out out' (Ok x) kept = kept

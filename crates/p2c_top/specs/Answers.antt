@@ -9,7 +9,7 @@ use Rattle.p2c_top.specs.Words.{Task, Translating, Running, IsRunning, name_aske
 use Rattle.p2c_top.specs.Messages.{status_of, file_of, message_of}
 use Rattle.p2c_top.specs.Reading.{Lacks, LacksFirst, Passes}
 use Rattle.p2c_top.specs.Translated.{Translates, TranslatesPart, RefusedWith}
-use Rattle.p2c_top.specs.Executed.{Executes, CutsOff, OfFile, MayExecutePart, MayTake, ReadFails}
+use Rattle.p2c_top.specs.Executed.{Executes, CutsOff, OfFile, MayExecutePart, MayPutBefore, MayTake, ReadFails}
 use Rattle.p2c_top.specs.declared.outcome.Outcome.{Outcome}
 use Rattle.p2c_top.specs.declared.outcome.Outcome.TheVariants.{Done, Ended, Usage, TooLong, BadSource, BadText, Missing, ReadFault, WriteFault, OutOfMemory, Spent, Stuck}
 
@@ -75,10 +75,11 @@ pub record Counts (task : Option Task) (lacked lacked' failed failed' taken take
   pub no_input_fault : outcome ≢ ReadFault → taken' ≡ taken
   pub no_write_fault : outcome ≢ WriteFault → put' ≡ put
 
--- what a run tells of its input: what failed where it could not read, and how much was taken
+-- what a run tells of its input: what failed where it could not read, how much was taken, and what was put before
 pub record RunInput (task : Option Task) (failed taken kept same : Type 0) (told : Option Named) (input input' old new : Option (List ℕ)) (outcome : Outcome) : Type 0 where
   pub fault : (steps : ℕ) (name : List ℕ) → task ≡ Some (Running steps name) → outcome ≡ ReadFault → ReadFails failed taken kept told name steps input input' old new
   pub few : (steps : ℕ) (name : List ℕ) → task ≡ Some (Running steps name) → MayTake same told name steps input input'
+  pub put : (steps : ℕ) (name : List ℕ) → task ≡ Some (Running steps name) → MayPutBefore same told name steps input input' old new
 
 -- the answers that come before anything is done
 abbrev pub IsEarly : Outcome → Type 0

@@ -4,7 +4,7 @@ use Rattle.c_tree.specs.declared.program.CProgram.{CProgram}
 use Rattle.c_grammar.specs.Text.{CText}
 use Rattle.c_meaning.specs.Runs.{CAnswer, Going, End, CRun}
 use Rattle.c_meaning.specs.Runs as run
-use Rattle.c_stepper.specs.Machines.{CutShort, Ran, TakesFew, told}
+use Rattle.c_stepper.specs.Machines.{CutShort, PutBeforeTaken, Ran, TakesFew, told}
 use Rattle.c_reader.specs.declared.fault.CTextFault.{CTextFault}
 use Rattle.c_reader.specs.declared.fault.CTextFault.TheVariants as fault
 use Rattle.c_stepper.specs.declared.machine.Ended as e
@@ -46,6 +46,12 @@ pub record TakesOnly (source : List ℕ) (steps : ℕ) (input input' : Option (L
   pub text : CText source program
   pub few : (left : List ℕ) → input ≡ Some left → TakesFew program left input' steps
 
+-- the source is a text, and where the input is told all that its program writes was put before more input was taken
+pub record PutsBefore (source : List ℕ) (steps : ℕ) (input input' old new : Option (List ℕ)) : Type 0 where
+  pub program : CProgram
+  pub text : CText source program
+  pub put : (left : List ℕ) → input ≡ Some left → PutBeforeTaken program left input' steps old new
+
 -- what was written gained a proper prefix of the output of the source's program
 pub record CutsOff (source : List ℕ) (steps : ℕ) (input old new : Option (List ℕ)) : Type 0 where
   pub program : CProgram
@@ -67,6 +73,10 @@ ReadFails failed taken kept told name steps input input' old new = (failed × ke
 -- nothing was taken of the input, or few bytes that the program of the file did not ask for
 abbrev pub MayTake : (kept : Type 0) → Option Named → (name : List ℕ) → (steps : ℕ) → (input input' : Option (List ℕ)) → Type 0
 MayTake kept told name steps input input' = kept ⊎ OfFile told name (λ source. TakesOnly source steps input input')
+
+-- nothing was taken of the input, or what the program of the file had written by then was put before
+abbrev pub MayPutBefore : (kept : Type 0) → Option Named → (name : List ℕ) → (steps : ℕ) → (input input' old new : Option (List ℕ)) → Type 0
+MayPutBefore kept told name steps input input' old new = kept ⊎ OfFile told name (λ source. PutsBefore source steps input input' old new)
 
 -- ---- the top call
 

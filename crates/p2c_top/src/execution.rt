@@ -4,7 +4,7 @@ ghost use Rattle.std.specs.Prelude.{◌≡◌, ◌≢◌, ◌≤◌, ◌⊎◌, 
 ghost use Rattle.p2c_outside.specs.Counts.{Rose};
 ghost use Rattle.p2c_outside.specs.Told.{Named, WhereTold};
 ghost use Rattle.p2c_top.specs.Answers.{IsEarly, IsMissing, RunAnswer};
-ghost use Rattle.p2c_top.specs.Executed.{InputFails, MayTake, ReadFails, TakesOnly, outcome_of_run};
+ghost use Rattle.p2c_top.specs.Executed.{InputFails, MayPutBefore, MayTake, PutsBefore, ReadFails, TakesOnly, outcome_of_run};
 
 use crate::outcome::Outcome;
 use crate::reading::{read_whole, refused};
@@ -30,6 +30,7 @@ pub fn execute<F: Files, I: Source, O: Sink>(
         ((input.new ≡ input.old) × (out.new ≡ out.old))
         (F.told files.old) name.now steps (I.left input.old) (I.left input.new) (O.written out.old) (O.written out.new) }
     ensures ahead { MayTake (input.new ≡ input.old) (F.told files.old) name.now steps (I.left input.old) (I.left input.new) }
+    ensures put_before { MayPutBefore (input.new ≡ input.old) (F.told files.old) name.now steps (I.left input.old) (I.left input.new) (O.written out.old) (O.written out.new) }
     ensures write_fault { result ≡ Outcome.WriteFault → Rose (O.faults out.old) (O.faults out.new) }
 
     ensures none_missing { (IsMissing result → ⊥) → result ≢ Outcome.ReadFault →
@@ -62,6 +63,7 @@ fn executed<I: Source, O: Sink>(
     ensures input_failed { result ≡ Outcome.ReadFault →
         InputFails bytes.now steps (I.left input.old) (I.left input.new) (O.written out.old) (O.written out.new) }
     ensures ahead { (input.new ≡ input.old) ⊎ TakesOnly bytes.now steps (I.left input.old) (I.left input.new) }
+    ensures put_before { (input.new ≡ input.old) ⊎ PutsBefore bytes.now steps (I.left input.old) (I.left input.new) (O.written out.old) (O.written out.new) }
     ensures read_fault { result ≡ Outcome.ReadFault → Rose (I.faults input.old) (I.faults input.new) }
     ensures write_fault { result ≡ Outcome.WriteFault → Rose (O.faults out.old) (O.faults out.new) }
     ensures no_input_fault { result ≢ Outcome.ReadFault → I.faults input.new ≡ I.faults input.old }

@@ -5,7 +5,7 @@ ghost use Rattle.p2c_text.specs.declared.dialect.Dialect.{Dialect};
 ghost use Rattle.command_words.specs.Asked.{Asked, seen};
 ghost use Rattle.p2c_outside.specs.Counts.{Rose};
 ghost use Rattle.p2c_top.specs.Answers.{Answer, Counts, LacksOne, Reports, RunInput, Stays};
-ghost use Rattle.p2c_top.specs.Executed.{AsksForText, CutsOff, EndsWith, IsOfRun, MayExecutePart, MayTake, NotRun, OfFile, ReadFails};
+ghost use Rattle.p2c_top.specs.Executed.{AsksForText, CutsOff, EndsWith, IsOfRun, MayExecutePart, MayPutBefore, MayTake, NotRun, OfFile, ReadFails};
 ghost use Rattle.p2c_top.specs.Words.{Finds, IsRunning, Running, Translating, task_asked, task_of};
 ghost use Rattle.p2c_top.specs.Translated.{AsksForAccepted, Refused, Translates, TranslatesPart};
 
@@ -69,6 +69,8 @@ pub fn p2c<F: Files, I: Source, O: Sink, E: Sink>(
 
     ensures ahead { (steps : ℕ) (name : List ℕ) → task_asked words.now ≡ Some (Running steps name) →
         MayTake (input.new ≡ input.old) (F.told files.old) name steps (I.left input.old) (I.left input.new) }
+    ensures put_before { (steps : ℕ) (name : List ℕ) → task_asked words.now ≡ Some (Running steps name) →
+        MayPutBefore (input.new ≡ input.old) (F.told files.old) name steps (I.left input.old) (I.left input.new) (O.written out.old) (O.written out.new) }
 
     // where no fault rose, a text is run, or memory was wanting
     ensures run_complete { AsksForText (F.told files.old) words.now →

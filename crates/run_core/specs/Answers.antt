@@ -2,7 +2,7 @@
 use Rattle.std.specs.Prelude.{◌≡◌, ℕ, List, Option, Some}
 use Rattle.c_tree.specs.declared.program.CProgram.{CProgram}
 use Rattle.c_grammar.specs.Text.{CText}
-use Rattle.c_stepper.specs.Machines.{Ran, TakesFew}
+use Rattle.c_stepper.specs.Machines.{PutBeforeTaken, Ran, TakesFew}
 use Rattle.c_stepper.specs.declared.machine.Ended.{Ended}
 
 -- the bytes are a text, and where the input is told its program was run for at most so many steps
@@ -11,3 +11,4 @@ pub record IsRun (bytes : List ℕ) (steps : ℕ) (input input' written written'
   pub text : CText bytes program
   pub ran : (left : List ℕ) → input ≡ Some left → Ran program left input' steps written written' ended
   pub ahead : (left : List ℕ) → input ≡ Some left → TakesFew program left input' steps
+  pub put : (left : List ℕ) → input ≡ Some left → PutBeforeTaken program left input' steps written written'

@@ -1,6 +1,6 @@
 use Rattle.std.proofs.Common.{◌≡◌, ◌+◌, ℕ, List, Some, None, true}
 use Rattle.p2c_outside.specs.Told.{IsEmpty}
-use Rattle.c_stepper.specs.Machines.{IsFor}
+use Rattle.c_stepper.specs.Machines.{IsFor, PutBeforeTaken}
 use Rattle.c_stepper.proofs.Running.{Along}
 use Rattle.c_stepper.proofs.machine.run_from.Given as goal
 
@@ -11,6 +11,7 @@ invariant-loop-left g l = record {
   taken : l.machine.taken + l.left ≡ l.fn.steps;
   end : l.machine.input.over ≡ true → IsEmpty (g.I.Source.left l.input);
   along : (bytes : List ℕ) → g.I.Source.left l.initial.input ≡ Some bytes → Along l.program bytes l.machine (g.I.Source.left l.input) (g.O.Sink.written l.initial.out) (g.O.Sink.written l.out);
+  put : (bytes : List ℕ) → g.I.Source.left l.initial.input ≡ Some bytes → PutBeforeTaken l.program bytes (g.I.Source.left l.input) l.fn.steps (g.O.Sink.written l.initial.out) (g.O.Sink.written l.out);
   no_input : g.I.Source.faults l.input ≡ g.I.Source.faults l.initial.input;
   no_output : g.O.Sink.faults l.out ≡ g.O.Sink.faults l.initial.out;
 }

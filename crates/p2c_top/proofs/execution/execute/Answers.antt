@@ -35,6 +35,11 @@ returns-clause-read_fault g c = λ e.
       ),
     )
 
+pub returns-clause-put_before : goal.returns-clause-put_before
+returns-clause-put_before g c =
+    let told = g.F.Files.told c.args.files.now in
+    of_file told c.args.name.now c.deref.result.now _ (subst (λ l. WhereTold told c.args.name.now (λ b. l ≡ b)) (sym c.deref.ensures.value) c.in-Ok.ensures.whole) c.executed.ensures.put_before
+
 pub returns-clause-ahead : goal.returns-clause-ahead
 returns-clause-ahead g c =
     let told = g.F.Files.told c.args.files.now in

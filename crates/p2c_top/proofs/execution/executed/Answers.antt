@@ -2,7 +2,7 @@ use Rattle.std.proofs.Common.{ap, sym, subst, ◌∙◌}
 use Rattle.p2c_top.specs.Answers.{IsEarly, IsMissing, RunAnswer}
 use Rattle.p2c_top.specs.Executed.{outcome_of_run}
 use Rattle.p2c_top.specs.declared.outcome.Outcome.{Outcome}
-use Rattle.p2c_top.proofs.Executions.{device_faults, early_kept, input_failed, kept_input, kept_map, kept_written, never_missing, run_answer, taken_only}
+use Rattle.p2c_top.proofs.Executions.{device_faults, early_kept, input_failed, kept_input, kept_map, kept_written, never_missing, puts_before, run_answer, taken_only}
 use Rattle.p2c_top.proofs.execution.executed.Goals as goal
 
 pub returns-clause-answer : goal.returns-clause-answer
@@ -45,6 +45,12 @@ pub returns-clause-input_failed : goal.returns-clause-input_failed
 returns-clause-input_failed g c = λ e.
     let r = c.run_text-answer in
     input_failed c.args.bytes.now c.args.steps (g.I.Source.left c.args.input.now) (g.I.Source.left r.new.input) (g.O.Sink.written c.args.out.now) (g.O.Sink.written r.new.out) r.result r.ensures.ran (sym c.finished.ensures ∙ e)
+
+pub returns-clause-put_before : goal.returns-clause-put_before
+returns-clause-put_before g c =
+    let r = c.run_text-answer in
+    puts_before c.args.bytes.now c.args.steps (g.I.Source.left c.args.input.now) (g.I.Source.left r.new.input) (g.O.Sink.written c.args.out.now) (g.O.Sink.written r.new.out) r.result r.ensures.ran
+    (kept_input c.args.input.now r.new.input c.args.out.now r.new.out r.result r.ensures.untouched)
 
 pub returns-clause-ahead : goal.returns-clause-ahead
 returns-clause-ahead g c =

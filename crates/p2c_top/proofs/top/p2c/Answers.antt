@@ -42,6 +42,9 @@ returns-clause-run_fault g c = run_fault_of (c.attempt-outcome.ensures.answers (
 pub returns-clause-ahead : goal.returns-clause-ahead
 returns-clause-ahead g c = (c.attempt-outcome.ensures.of_input (asked c.args.words.now) c.asked-asked.ensures).few
 
+pub returns-clause-put_before : goal.returns-clause-put_before
+returns-clause-put_before g c = (c.attempt-outcome.ensures.of_input (asked c.args.words.now) c.asked-asked.ensures).put
+
 pub returns-clause-missing : goal.returns-clause-missing
 returns-clause-missing g c = missing_of (c.attempt-outcome.ensures.answers (asked c.args.words.now) c.asked-asked.ensures) c.status.ensures (c.attempt-outcome.ensures.counts (asked c.args.words.now) c.asked-asked.ensures)
 

@@ -1,10 +1,11 @@
-use Rattle.std.proofs.Common.{◌≡◌, ◌≤◌, ◌++◌, ◌∙◌, [], sym, subst, Some, inr, List, ℕ, Bool, true, false, Result, length}
+use Rattle.std.proofs.Common.{◌≡◌, ◌≤◌, ◌++◌, ◌∙◌, [], refl, sym, subst, Some, inr, List, ℕ, Bool, true, false, Result, length}
 use Rattle.c_meaning.specs.Steps.{CStep}
 use Rattle.c_cells.specs.declared.halt.Halt.{Halt}
+use Rattle.held_bytes.proofs.ToldLemmas.{Gains-append}
 use Rattle.held_bytes.specs.Held.{bytes_in}
 use Rattle.c_stepper.specs.Runners.{state_of, AsksForByte, Seeks}
 use Rattle.c_stepper.specs.Machines.{stood, Steps}
-use Rattle.c_stepper.proofs.Machining.{sought_in_vain, put_before, takes_none}
+use Rattle.c_stepper.proofs.Machining.{gained, sought_in_vain, put_before, takes_none}
 use Rattle.c_stepper.proofs.machine.Machine.read_more.Goals as goal
 
 -- no place was found
@@ -47,5 +48,13 @@ returns-clause-takes g c =
       served = λ _ before rest output calls _ e.
           let none : bytes_in filled ≡ [] = subst (λ (l : List ℕ). l ++ bytes_in filled ≡ []) dry.empty e in
           let k : ◌≡◌ {A = Bool} true false = sym (same ∙ c.in-Ok-fill.ensures.filled none) ∙ before in cc;
+      put_first = inr (record {
+        dry = dry;
+        asks = λ rest output calls. c.in_default.ensures (bytes_in old.input ++ rest) output calls;
+        put = λ calls count.
+            let goes = c.read_held.ensures.step [] [] calls (λ e. refl) count in
+            let (more, put) = gained p c.flush.new.self.bytes.items old.calls c.read_held.new.self (Some []) w1 w2 [] calls c.read_held.result (CStep p (state_of p old.runner (bytes_in filled ++ []) [] calls)) goes in
+            (more, Gains-append w w1 w2 old.output.bytes.items more c.in-Ok.ensures.whole put);
+      });
       wants = λ h. absurd (c.read_held.ensures.no_input h);
     }

@@ -1,8 +1,49 @@
-use super::{puts, read_from, takes};
-use crate::{RealFiles, StdSink, StdSource};
+use p2c_outside::{Failed, FileFault, Files, RealFiles, Sink, Source, StdSink, StdSource};
+use std::alloc::{AllocError, Global};
 use std::io::{ErrorKind, Read, Write};
 use std::test::Fail;
 use std::{fs, io, process};
+
+/// What some takes of up to four bytes give: of each the bytes, or `!` for a refusal, and then `|`.
+fn takes<S: Source>(alloc: Global, source: &mut S, calls: usize) -> Result<Vec<u8>, AllocError> {
+    let mut log = Vec::new(alloc);
+    for _ in 0..calls {
+        let mut into = [0u8; 4];
+        match source.take(&mut into) {
+            Ok(count) => log.extend_from_slice(&into[..count])?,
+            Err(Failed) => log.push(b'!')?,
+        }
+        log.push(b'|')?;
+    }
+    Ok(log)
+}
+
+/// How much of `abc` some puts write: of each the number, or `!` for a refusal.
+fn puts<S: Sink>(alloc: Global, sink: &mut S, calls: usize) -> Result<String, AllocError> {
+    let mut log = String::new(alloc);
+    for _ in 0..calls {
+        match sink.put(b"abc") {
+            Ok(count) => write!(log, "{count}")?,
+            Err(Failed) => log.push('!')?,
+        }
+    }
+    Ok(log)
+}
+
+/// What a read of up to four bytes gives: the bytes, `?` for a missing file, or `!`.
+fn read_from<F: Files>(
+    alloc: Global,
+    files: &mut F,
+    name: &str,
+    at: u64,
+) -> Result<Vec<u8>, AllocError> {
+    let mut into = [0u8; 4];
+    match files.read(name, at, &mut into) {
+        Ok(count) => Vec::from_slice(alloc, &into[..count]),
+        Err(FileFault::Missing) => Vec::from_slice(alloc, b"?"),
+        Err(FileFault::Failed) => Vec::from_slice(alloc, b"!"),
+    }
+}
 
 /// A reader that is interrupted, gives a byte, fails, gives another and ends.
 #[derive(Drop)]
@@ -93,31 +134,39 @@ fn a_put_writes_the_whole_piece_or_fails(rt: HostRuntime) -> Result<(), Fail> {
     Ok(())
 }
 
+/// Two files are read by turns, on from where the last read ended and from other places; what is no
+/// file and what is not there is a fault, and the next read goes on.
 #[test]
 fn real_files_are_read_and_the_rest_is_a_fault(rt: HostRuntime) -> Result<(), Fail> {
     let number = process::id(rt.process());
-    let path = format!(in rt.alloc(); "/tmp/p2c_outside_reads_{number}")?;
-    let name = path.as_str();
-    fs::write(&rt, name, b"hello")?;
-    let mut files = RealFiles {
-        runtime: &rt,
-        missing: 0,
-        faults: 0,
-    };
+    let first = format!(in rt.alloc(); "/tmp/p2c_reads_{number}_first")?;
+    let second = format!(in rt.alloc(); "/tmp/p2c_reads_{number}_second")?;
+    let (first, second) = (first.as_str(), second.as_str());
+    fs::write(&rt, first, b"hello world")?;
+    fs::write(&rt, second, b"again")?;
+    let mut files = RealFiles::new(&rt, rt.alloc());
     for (name, at, want) in [
-        (name, 0, b"hell".as_slice()),
-        (name, 4, b"o".as_slice()),
-        (name, 5, b"".as_slice()),
+        (first, 0, b"hell".as_slice()),
+        (first, 4, b"o wo".as_slice()),
+        (first, 8, b"rld".as_slice()),
+        (first, 11, b"".as_slice()),
+        (first, 11, b"".as_slice()),
+        (second, 0, b"agai".as_slice()),
+        (first, 4, b"o wo".as_slice()),
+        (second, 4, b"n".as_slice()),
         ("/", 0, b"!".as_slice()),
         ("/no such file", 0, b"?".as_slice()),
         ("", 0, b"?".as_slice()),
-        (name, u64::MAX, b"!".as_slice()),
+        (second, u64::MAX, b"!".as_slice()),
+        (second, 1, b"gain".as_slice()),
+        (second, 1, b"gain".as_slice()),
     ] {
         let given = read_from(rt.alloc(), &mut files, name, at)?;
         assert_eq!(rt; given.as_slice(), want, "{name} at {at}");
     }
     assert_eq!(rt; files.missing, 2);
     assert_eq!(rt; files.faults, 2);
-    fs::remove_file(&rt, name)?;
+    fs::remove_file(&rt, first)?;
+    fs::remove_file(&rt, second)?;
     Ok(())
 }
