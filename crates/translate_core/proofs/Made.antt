@@ -51,7 +51,7 @@ made d texts bytes program (ws, accepts, put) small value tree =
           text = text_read_back (program_text program) program refl tree;
           follows = follows;
         };
-        shape = subst (λ c. Shape NothingPerforms (outline_of (typed_writer d ws)) c) (sym is) (writers_have_shape d ws (all_bytes ws));
+        shape = λ variable_name. subst (λ c. Shape NothingPerforms (outline_of variable_name (typed_writer d ws)) c) (sym is) (writers_have_shape variable_name d ws (all_bytes ws));
         ends = writers_end d ws;
         c_ends = c_ends d ws program follows;
       },

@@ -14,13 +14,13 @@ use Rattle.program_shape.specs.Shape.{Shape}
 use Rattle.program_shape.specs.Laws.{NothingPerforms}
 use Rattle.translate_core.specs.Accepted.{Accepts}
 
--- the C text agrees with the typed program of the texts, and its tree has the form of a translation of it; on every input both
--- end with status 0, and have written the same bytes
+-- the C text agrees with the typed program of the texts, and its tree has the form of a translation of it, whatever C names
+-- variables have; on every input both end with status 0, and have written the bytes of the program's literal texts
 pub record IsTranslation (d : Dialect) (texts : List NamedBytes) (text : List ℕ) : Type 0 where
   pub writings : List Writing
   pub accepts : Accepts d texts writings
   pub agrees : Agrees (typed_writer d writings) text
-  pub shape : Shape NothingPerforms (outline_of (typed_writer d writings)) agrees.program
+  pub shape : (variable_name : ℕ → List ℕ) → Shape NothingPerforms (outline_of variable_name (typed_writer d writings)) agrees.program
   pub ends : (input : List ℕ) → (n : ℕ) × (Pas (typed_writer d writings) input n ≡ End (all_bytes writings) 0 [])
   pub c_ends : (input : List ℕ) → (m : ℕ) × (CRun agrees.program input m ≡ c.End (all_bytes writings) 0 [])
 
