@@ -1,3 +1,4 @@
 mod WriterRuns
 mod WriterMeans
 pub mod WritersAgree
+pub mod WritersEnd

@@ -1,6 +1,6 @@
 -- Worked examples of operations, outlines and C programs.
-use Rattle.std.proofs.Common.{◌≡◌, ℕ, Bool, true, false, List, [], ◌∷◌, ◌++◌, Option, Some, None, refl}
-use Rattle.std.specs.Prelude.{pos, negsuc, codes}
+use Rattle.std.proofs.Common.{◌≡◌, ℕ, ◌+◌, Bool, true, false, List, [], ◌∷◌, ◌++◌, Option, Some, None, refl}
+use Rattle.std.specs.Prelude.{pos, negsuc, codes, map}
 use Rattle.std.specs.List.{list_any}
 use Rattle.std.specs.Fmt.{digits}
 use Rattle.p2c_text.specs.declared.dialect.Dialect.{Dialect}
@@ -19,11 +19,13 @@ use Rattle.typed_tree.specs.declared.statements.TypedStmt.{TypedStmt}
 use Rattle.pascal_meaning.specs.declared.operations.Primitive.{Primitive}
 use Rattle.pascal_meaning.specs.declared.operations.Primitive.TheVariants as p
 use Rattle.pascal_meaning.proofs.Examples.Build.{integer, small, char, boolean, own, known_types, range, label_of, field, arm, variant_part, num, letter, truth, unary, chain, read, variable, shown, wide, assign_to, while, repeat_until, for_of, case_of, case_else, labelled, perform, of_type, section, procedure, whole as program}
-use Rattle.c_tree.specs.Tree.{Statement as CStatement, Call, While, Goto, Label, Empty, Then, Read, Variable}
+use Rattle.c_tree.specs.Tree.{Statement as CStatement, Call, While, Goto, Label, Empty, Then, Read, Variable, Int}
+use Rattle.c_tree.specs.declared.program.CMember.{CMember}
+use Rattle.c_tree.specs.declared.program.CDeclaration.TheVariants.{Struct}
 use Rattle.c_tree.specs.declared.statement.CCallee.TheVariants.{Direct}
 use Rattle.program_shape.specs.Outlines.{BodyOutline, RoutineOutline}
 use Rattle.program_shape.specs.Functions.{whiles, statement_whiles, body_whiles, jumps, statement_jumps, body_jumps, Lands, Leaps, sites, statement_sites, body_sites, first_of}
-use Rattle.program_shape.specs.Shape.{c_name}
+use Rattle.program_shape.specs.Shape.{c_name, captured_only}
 use Rattle.typed_tree.specs.Ranges.{type_at, range_of, Range, host_of, Hosted}
 use Rattle.typed_tree.specs.Fields.{as_variable, part_fields, arms_fields, arm_fields, inner_fields, variant, variants_of, choice, has_field, deeper, around_part, around_arms, around_arm, around_inner, tag_in_part, tag_in_arms, tag_in_inner, optional_fields, record_fields, or_none, variants_around, tag_choice}
 use Rattle.program_shape.specs.Nodes.{number_of, negated, constant, lies_in, is_settled, is_positive, has_named_tag, is_turbo, is_string, reads, is_read_through, selections, from_root, inside, index_inside, chosen, parts, elements, argument, arguments, operand, operands, width, whole, choice as nodes_choice, place, of_each, with_part, nodes, all_nodes, arms, otherwise}
@@ -46,9 +48,13 @@ unfoldable using : Dialect → List PasType → TypedStmt → List Primitive
 unfolding type_at range_of Range host_of Hosted as_variable part_fields arms_fields arm_fields inner_fields variant variants_of choice has_field deeper around_part around_arms around_arm around_inner tag_in_part tag_in_arms tag_in_inner optional_fields record_fields or_none variants_around tag_choice number_of negated constant lies_in is_settled is_positive has_named_tag is_turbo is_string reads is_read_through selections from_root inside index_inside chosen parts elements argument arguments operand operands width whole nodes_choice place of_each with_part nodes all_nodes arms otherwise is_set is_text range_uses store_uses pass_uses string_uses on_sets comparison operator_uses unary_uses parts_uses elements_uses is_wide given all_given joins concat_uses function_uses write_uses read_uses status_uses call_uses expression_uses unmatched_uses statement_uses variant_uses index_uses selector_uses root_uses uses is_inside reach fits store_raises_by store_raises are_strings operator_raises parts_raise sign_raises members_raise any_string function_raises width_raises written_raise is_some call_raises expression_raises unmatched_raises statement_raises has_hidden_tag selector_raises root_raises raises has_number loops_in has_label body_outline section_names result_names own_names callee_names root_names names all_names routine_nodes named_elsewhere among_numbers captured names_other statement_leaves leaves routine_outline bodies_nodes routines_nodes main_nodes all_uses outline_of root_type base_range type_after place_type expr_type parts_type
 using d ts s = all_uses (types_in d ts) (nodes (types_in d ts) s)
 
+-- the C names of variables: a, b and so on
+abbrev letter_of : ℕ → List ℕ
+letter_of d = (96 + d) ∷ []
+
 unfoldable outlined : Typed → List RoutineOutline × BodyOutline
 unfolding type_at range_of Range host_of Hosted as_variable part_fields arms_fields arm_fields inner_fields variant variants_of choice has_field deeper around_part around_arms around_arm around_inner tag_in_part tag_in_arms tag_in_inner optional_fields record_fields or_none variants_around tag_choice number_of negated constant lies_in is_settled is_positive has_named_tag is_turbo is_string reads is_read_through selections from_root inside index_inside chosen parts elements argument arguments operand operands width whole nodes_choice place of_each with_part nodes all_nodes arms otherwise is_set is_text range_uses store_uses pass_uses string_uses on_sets comparison operator_uses unary_uses parts_uses elements_uses is_wide given all_given joins concat_uses function_uses write_uses read_uses status_uses call_uses expression_uses unmatched_uses statement_uses variant_uses index_uses selector_uses root_uses uses is_inside reach fits store_raises_by store_raises are_strings operator_raises parts_raise sign_raises members_raise any_string function_raises width_raises written_raise is_some call_raises expression_raises unmatched_raises statement_raises has_hidden_tag selector_raises root_raises raises has_number loops_in has_label body_outline section_names result_names own_names callee_names root_names names all_names routine_nodes named_elsewhere among_numbers captured names_other statement_leaves leaves routine_outline bodies_nodes routines_nodes main_nodes all_uses outline_of root_type base_range type_after place_type expr_type parts_type
-outlined t = let o = outline_of t in (o.routines, o.main)
+outlined t = let o = outline_of letter_of t in (o.routines, o.main)
 
 -- ---- what raises
 
@@ -178,6 +184,40 @@ loops_labels_and_captured_names : outlined nested ≡ (
 )
 unfolding outlined
 loops_labels_and_captured_names = refl
+
+-- ---- structs
+
+abbrev members : List (List ℕ) → List CMember
+members = map (λ n. record { name = n; of = Int; length = None })
+
+-- the two procedures, and a struct with these members for the first of them
+unfoldable held : (variable_name : ℕ → List ℕ) → List (List ℕ) → Bool
+unfolding digits
+held variable_name names = captured_only variable_name (outlined nested).0 (Struct (record { name = codes "_1"; members = members names }) ∷ [])
+
+each_captured_variable_is_a_member : (held letter_of (codes "a" ∷ codes "b" ∷ []) ≡ true) × (held letter_of (codes "p2c_up" ∷ codes "b" ∷ codes "a" ∷ codes "p2c_identity" ∷ []) ≡ true)
+unfolding held outlined
+each_captured_variable_is_a_member = (refl, refl)
+
+a_member_has_another_name : held letter_of (codes "a" ∷ codes "c" ∷ []) ≡ false
+unfolding held outlined
+a_member_has_another_name = refl
+
+a_member_is_no_captured_variable : held letter_of (codes "a" ∷ codes "b" ∷ codes "c" ∷ []) ≡ false
+unfolding held outlined
+a_member_is_no_captured_variable = refl
+
+a_member_stands_twice : (held letter_of (codes "a" ∷ codes "b" ∷ codes "b" ∷ []) ≡ false) × (held letter_of (codes "a" ∷ codes "b" ∷ codes "p2c_up" ∷ codes "p2c_up" ∷ []) ≡ false)
+unfolding held outlined
+a_member_stands_twice = (refl, refl)
+
+a_captured_variable_is_no_member : held letter_of (codes "b" ∷ []) ≡ false
+unfolding held outlined
+a_captured_variable_is_no_member = refl
+
+two_captured_variables_have_one_name : held (λ d. codes "a") (codes "a" ∷ []) ≡ false
+unfolding held outlined
+two_captured_variables_have_one_name = refl
 
 -- ---- C programs
 

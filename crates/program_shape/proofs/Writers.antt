@@ -35,7 +35,7 @@ some_jump (b ∷ before) after j e = absurd cc
 
 pub writers_have_shape : WritersHaveShape
 unfolding outline_of function_names runtime_functions texts main_text
-writers_have_shape d ws bytes = record {
+writers_have_shape variable_name d ws bytes = record {
   one_function_each = record {
     one = λ r is. absurd (nothing_in r is);
     no_other = λ name k is e. absurd (nothing_in name is);
@@ -46,7 +46,7 @@ writers_have_shape d ws bytes = record {
     all = λ g is. absurd (nothing_in g is);
     unlike = λ i j g less within. absurd (omega (arith, less, within));
   };
-  captured_only = λ r s is. absurd (nothing_in r is);
+  captured_only = refl;
   checked_only = λ t s target is called c.
       let e : main_text (writer_of bytes) ≡ t = only_in _ t is in
       absurd (nothing_in s (subst (λ l. Contains l s) (no_sites bytes) (subst (λ u. Contains (sites u.statements) s) (sym e) called)));

@@ -9,6 +9,6 @@ use Rattle.program_shape.specs.Shape.{Performing, Shape}
 abbrev pub NothingPerforms : Performing
 NothingPerforms types c f p = ⊥
 
--- the C program that writes bytes has the form of a translation of a program that writes literal texts
+-- the C program that writes bytes has the form of a translation of a program that writes literal texts, whatever C names variables have
 abbrev pub WritersHaveShape : Type 0
-WritersHaveShape = (d : Dialect) (ws : List Writing) (bytes : List ℕ) → Shape NothingPerforms (outline_of (typed_writer d ws)) (writer_of bytes)
+WritersHaveShape = (variable_name : ℕ → List ℕ) (d : Dialect) (ws : List Writing) (bytes : List ℕ) → Shape NothingPerforms (outline_of variable_name (typed_writer d ws)) (writer_of bytes)

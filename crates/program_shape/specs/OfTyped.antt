@@ -141,11 +141,13 @@ unfoldable pub all_uses : Types → List Node → List Primitive
 all_uses types [] = []
 all_uses types (n ∷ ns) = uses types n ++ all_uses types ns
 
-unfoldable pub outline_of : Typed → Outline
-outline_of p = record {
+-- a typed program has its variables by number, and their C names are given
+unfoldable pub outline_of : (variable_name : ℕ → List ℕ) → Typed → Outline
+outline_of variable_name p = record {
   types = p.types;
   routines = map (routine_outline p) p.routines;
   main = body_outline (main_nodes p);
   primitives = all_uses p.types (routines_nodes p.types p.routines ++ main_nodes p);
   MayEscape = MayEscape p;
+  variable_name = variable_name;
 }

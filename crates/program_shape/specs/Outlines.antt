@@ -26,3 +26,5 @@ pub record Outline : Type 1 where
   pub primitives : List Primitive
   -- the numbers of routines that a goto, an exit, a halt, an escape or a runtime error may leave
   pub MayEscape : ℕ → Type 0
+  -- the C names of variables, parameters and results
+  pub variable_name : ℕ → List ℕ

@@ -1,13 +1,15 @@
 -- The form of a translation: one C function for each routine, and no interpreter.
-use Rattle.std.specs.Prelude.{◌≡◌, ◌↔◌, ℕ, ◌+◌, ◌≤◌, IsTrue, List, [], ◌∷◌, ◌++◌, length, map, decimal, codes, Option, Some}
-use Rattle.std.specs.List.{Contains, AllPairs}
+use Rattle.std.specs.Prelude.{◌≡◌, ◌↔◌, ℕ, ◌≤◌, Bool, true, not, ◌&&◌, ◌||◌, nat_eq, IsTrue, List, [], ◌∷◌, ◌++◌, map, decimal, codes, Option, Some}
+use Rattle.std.specs.List.{Contains, AllPairs, count_by, list_any, list_all}
+use Rattle.std.specs.Str.{bytes_eq}
 use Rattle.typed_tree.specs.declared.types.PasType.{PasType}
 use Rattle.typed_tree.specs.declared.types.Types.{Types}
 use Rattle.pascal_meaning.specs.declared.operations.Primitive.{Primitive}
 use Rattle.c_tree.specs.Tree.{Statement, If, IfElse, Expr, Read, Number, WordNumber, Null, Address, Unary, Binary, Cast, Place, Variable, Pointee, Member, Index}
-use Rattle.c_tree.specs.declared.program.CStruct.{CStruct}
+use Rattle.c_tree.specs.declared.program.CMember.{CMember}
 use Rattle.c_tree.specs.declared.program.CFunction.{CFunction}
-use Rattle.c_tree.specs.declared.program.CDeclaration.TheVariants.{Struct}
+use Rattle.c_tree.specs.declared.program.CDeclaration.{CDeclaration}
+use Rattle.c_tree.specs.declared.program.CDeclaration.TheVariants.{Struct, Typedef}
 use Rattle.c_tree.specs.declared.program.CProgram.{CProgram}
 use Rattle.c_meaning.specs.Entries.{number_at_end}
 use Rattle.program_shape.specs.Outlines.{BodyOutline, RoutineOutline, Outline}
@@ -67,10 +69,34 @@ pub record PrimitivesOnly (Performs : Performing) (o : Outline) (c : CProgram) :
 
 -- ---- captured variables
 
--- a struct with the C name of a routine has a member for each captured name, and at most two more: a link and an identity
+-- a link to the activation around, and what tells an activation that has nothing else from another
+abbrev pub own_members : List (List ℕ)
+own_members = codes "p2c_up" ∷ codes "p2c_identity" ∷ []
+
+abbrev pub stands_in : List (List ℕ) → List ℕ → Bool
+stands_in names n = list_any (bytes_eq n) names
+
+abbrev pub are_distinct : List (List ℕ) → Bool
+are_distinct names = list_all (λ n. nat_eq (count_by (bytes_eq n) names) 1) names
+
+-- each captured variable is one member, by its name, and each other member is a link or an identity
+abbrev pub are_members : (captured members : List (List ℕ)) → Bool
+are_members captured members =
+    are_distinct captured && are_distinct members
+    && list_all (stands_in members) captured
+    && list_all (stands_in (own_members ++ captured)) members
+
+-- a struct with the C name of the routine has the members of its captured variables
+abbrev pub has_members : (variable_name : ℕ → List ℕ) → RoutineOutline → CDeclaration → Bool
+has_members variable_name r (Struct s) = not (bytes_eq s.name (c_name r)) || are_members (map variable_name r.captured) (map (λ (m : CMember). m.name) s.members)
+has_members variable_name r (Typedef t) = true
+
+abbrev pub captured_only : (variable_name : ℕ → List ℕ) → List RoutineOutline → List CDeclaration → Bool
+captured_only variable_name routines declarations = list_all (λ r. list_all (has_members variable_name r) declarations) routines
+
+-- each struct with the C name of a routine has one member for each captured variable, by its C name, and no other but a link and an identity
 abbrev pub CapturedOnly : Outline → CProgram → Type 0
-CapturedOnly o c = (r : RoutineOutline) (s : CStruct) → Contains o.routines r → Contains c.declarations (Struct s) → s.name ≡ c_name r
-    → (length r.captured ≤ length s.members) × (length s.members ≤ length r.captured + 2)
+CapturedOnly o c = IsTrue (captured_only o.variable_name o.routines c.declarations)
 
 -- ---- checks
 

@@ -1,11 +1,11 @@
 //! The form of a translation.
 //!
 //! `Shape` of `specs/Shape.antt` says, in five parts, that a C program has one function for each
-//! routine, that each other function performs one primitive that the Pascal program uses, that only
-//! captured variables stand in a routine's struct, that a call is checked exactly where its callee may
-//! escape, and that no function has more loops than its routine. It asks of the Pascal program an
-//! `Outline` alone, which each of the languages on the way has; `OfTyped` gives that of a typed
-//! program.
+//! routine, that each other function performs one primitive that the Pascal program uses, that a
+//! routine's struct has its captured variables by their names and no others, that a call is checked
+//! exactly where its callee may escape, and that no function has more loops than its routine. It asks
+//! of the Pascal program an `Outline` alone, which each of the languages on the way has; `OfTyped`
+//! gives that of a typed program, where the C names of variables are given.
 //!
 //! | Definitions | What they say |
 //! |---|---|
