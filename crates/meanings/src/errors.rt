@@ -3,7 +3,7 @@ ghost use Rattle.std.specs.Prelude.{◌≡◌};
 ghost use Rattle.meanings.specs.Errors.{error_number};
 
 /// A runtime error. Its number is the status of a program that it ends.
-#[derive(Clone, Copy, Debug, PartialEq, Eq)]
+#[derive(Clone, Copy)]
 pub enum RuntimeError {
     /// A zero divisor, or one of ISO's or HP's `mod` that is not positive.
     BadDivisor = 200,

@@ -26,7 +26,5 @@
 
 mod errors;
 pub mod laws;
-#[cfg(test)]
-mod tests;
 
 pub use errors::RuntimeError;
