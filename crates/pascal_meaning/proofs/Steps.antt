@@ -23,7 +23,7 @@ use Rattle.pascal_meaning.specs.Predefined.{Operand, Given, Target, Shown, Named
 use Rattle.pascal_meaning.specs.declared.operations.Primitive.{Primitive}
 use Rattle.pascal_meaning.specs.declared.operations.Primitive.TheVariants as p
 use Rattle.pascal_meaning.specs.Primitives.{by_operator, by_call, no_answer, store_into, read_target, perform}
-use Rattle.pascal_meaning.specs.Statements.{read_again, apply_operator, Part, go_on, Element, Member, Members, with_element, with_elements, select_all, read_place, parent_of, resolve, call_routine, Item, run_all, run_from, Start, First, AtLabel, begin_at, sequence, goto, while_loop, repeat_loop, variable_spot, for_turns, for_loop, no_case, cases, bind_reference, with_all, recover_from, try_recover}
+use Rattle.pascal_meaning.specs.Statements.{read_again, apply_operator, Part, go_on, Element, Member, Members, with_element, with_elements, select_all, read_place, parent_of, resolve, call_routine, call_function, Item, run_all, run_from, Start, First, AtLabel, begin_at, sequence, goto, while_loop, repeat_loop, variable_spot, for_turns, for_loop, no_case, cases, bind_reference, with_all, recover_from, try_recover}
 
 module _ (J : Judgement) where
   pub bind : {X Y : Type 0} {p : Prog X} {f : X → Prog Y} → J.Holds p → ((x : X) → J.Holds (f x)) → J.Holds (p >>= f)
@@ -41,7 +41,7 @@ module _ (J : Judgement) where
   pub of_choose : {X : Type 0} (b : Bool) {p q : Prog X} → J.Holds p → J.Holds q → J.Holds (choose b p q)
   of_choose = J.of_choose
 
-  pub of_ask : {X : Type 0} (f : Setting → View → Option X) → J.Holds (ask f)
+  pub of_ask : {X : Type 0} (f : Setting → View → Checked X) → J.Holds (ask f)
   of_ask = J.of_ask
 
   pub of_check : {X : Type 0} (f : Types → Checked X) → J.Holds (check f)
@@ -50,7 +50,7 @@ module _ (J : Judgement) where
   pub of_print : (bytes : List ℕ) → J.Holds (print bytes)
   of_print = J.of_print
 
-  pub of_update : (f : Types → View → Option View) → J.Holds (update f)
+  pub of_update : (f : Types → View → Checked View) → J.Holds (update f)
   unfolding update
   of_update f = J.of_bind (J.of_ask _) (λ v. J.of_change v)
 
@@ -393,6 +393,10 @@ module _ (J : Judgement) where
   pub of_call_routine : (c : Callee) {args : List (Prog Passed)} → Each args → J.Holds (call_routine c args)
   unfolding call_routine
   of_call_routine c hs = bind (of_collect hs) (λ passed. bind (of_resolve c) (λ r. J.of_run r passed))
+
+  pub of_call_function : (c : Callee) {args : List (Prog Passed)} → Each args → J.Holds (call_function c args)
+  unfolding call_function
+  of_call_function c hs = bind (of_call_routine c hs) (λ t. of_check _)
 
   -- ---- statements
 

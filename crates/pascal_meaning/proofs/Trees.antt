@@ -26,7 +26,7 @@ module _ (J : Judgement) where
     of_value (X.TextConst bs t) = s.of_pure J _
     of_value X.Nil = s.of_pure J _
     of_value (X.Read' r shape row) = s.of_read_place J r (s.bind J (s.of_root J r) (λ p. s.of_select_all J (of_selectors row) p))
-    of_value (X.Call' c shape row t) = s.of_call_routine J c (of_arguments row)
+    of_value (X.Call' c shape row t) = s.of_call_function J c (of_arguments row)
     of_value (X.Unary' op p (X.more_of-TypedExpr e X.end_of-TypedExpr) t) = s.bind J (of_value e) (λ v. s.of_check J _)
     of_value (X.Binary' p (X.more_of-TypedExpr e X.end_of-TypedExpr) shape row) = s.bind J (of_value e) (λ v. s.of_go_on J (of_parts row) _ v)
     of_value (X.SetOf' shape row t) = s.of_elements J (of_set_elements row) _

@@ -8,7 +8,7 @@ use Rattle.typed_tree.specs.declared.operations.BinaryOp.TheVariants.{Add, Sub, 
 use Rattle.meanings.specs.declared.errors.RuntimeError.{RuntimeError}
 use Rattle.meanings.specs.declared.errors.RuntimeError.TheVariants.{BadDivisor, OutOfRange, Overflow}
 use Rattle.meanings.specs.Values.{Tree, Whole}
-use Rattle.meanings.specs.Outcomes.{Checked, Passes, Fails, Lacks, ◌&>◌}
+use Rattle.meanings.specs.Outcomes.{Checked, Passes, Fails, Misfits, ◌&>◌}
 
 -- ---- ranges
 
@@ -89,7 +89,7 @@ on_numbers d Less x y = Passes (of_bool (int_lt x y))
 on_numbers d Greater x y = Passes (of_bool (int_lt y x))
 on_numbers d LessEq x y = Passes (of_bool (int_le x y))
 on_numbers d GreaterEq x y = Passes (of_bool (int_le y x))
-on_numbers d _ x y = Lacks
+on_numbers d _ x y = Misfits
 
 -- ---- decimal
 

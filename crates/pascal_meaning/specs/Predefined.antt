@@ -15,11 +15,11 @@ use Rattle.typed_tree.specs.Ranges.{type_at, Range, Hosted}
 use Rattle.meanings.specs.declared.errors.RuntimeError.TheVariants.{OutOfRange, NilUse, LongText}
 use Rattle.meanings.specs.Values.{Tree, Undefined, Whole, NilPointer, HeapNumber, ArrayOf, Trees, no_trees, tree, Heap}
 use Rattle.meanings.specs.Worlds.{View}
-use Rattle.meanings.specs.Outcomes.{Escape, Leave, Raise, Halt, ReadUndefined, Checked, Passes, Fails, Lacks, ◌&>◌}
+use Rattle.meanings.specs.Outcomes.{Escape, Leave, Raise, Halt, Malformed, Checked, Passes, Fails, Lacks, Misfits, ◌&>◌, there, expect}
 use Rattle.meanings.specs.Programs.{Prog, ◌>>=◌, ◌>>◌, pure, stop, ask, check, print, update, of_types, here, collect}
 use Rattle.meanings.specs.Names.{enclosing}
 use Rattle.meanings.specs.Memory.{base_tree, solid}
-use Rattle.meanings.specs.Fresh.{size_of, fresh}
+use Rattle.meanings.specs.Fresh.{size_of, fresh, is_type}
 use Rattle.pascal_meaning.specs.Numbers.{when, exact, in_range, of_bool, equal, number_of, whole}
 use Rattle.pascal_meaning.specs.Texts.{Text, Plain, text_of, length_of, read_text, read_texts, making}
 use Rattle.pascal_meaning.specs.Places.{Spot, component, read_spot, store, store_copy, assign}
@@ -37,13 +37,15 @@ pub data Operand : Type 0 where
   -- a routine that is named
   Named : Callee → Operand
 
-unfoldable pub tree_of : Operand → Tree
-tree_of (Given t v) = v
-tree_of (Shown t v k) = v
-tree_of _ = Undefined
+unfoldable pub tree_of : Operand → Checked Tree
+tree_of (Given t v) = Passes v
+tree_of (Shown t v k) = Passes v
+tree_of _ = Misfits
 
 unfoldable pub integer_of : Operand → ℤ
-integer_of x = number_of (tree_of x)
+integer_of (Given t v) = number_of v
+integer_of (Shown t v k) = number_of v
+integer_of _ = pos 0
 
 unfoldable pub text_in : Types → Operand → Text
 text_in types (Given t v) = text_of (type_at types t) v
@@ -61,11 +63,11 @@ in_host types (Some WholeHost) z = exact z
 in_host types (Some Char) z = in_range (Some (pos 0, pos 255)) z
 in_host types (Some BoolHost) z = in_range (Some (pos 0, pos 1)) z
 in_host types (Some (Enumeration t)) z = in_range (Range types t) z
-in_host types None z = Lacks
+in_host types None z = Misfits
 
 unfoldable pub limit_of : Option PasType → Checked ℤ
 limit_of (Some (DynString limit)) = Passes (pos limit)
-limit_of _ = Lacks
+limit_of _ = Misfits
 
 unfoldable pub operand_type : Operand → ℕ
 operand_type (Given t v) = t
@@ -81,7 +83,7 @@ unfoldable pub computed : Types → PredefCall → List Operand → (type : ℕ)
 computed types call.Abs (x ∷ []) t = whole (exact (pos (unsigned_abs (integer_of x))))
 computed types call.Sqr (x ∷ []) t = whole (exact (integer_of x *ℤ integer_of x))
 computed types call.Odd (x ∷ []) t = Passes (Whole (of_bool (not (equal (int_rem (integer_of x) (pos 2)) (pos 0)))))
-computed types call.Ord (x ∷ []) t = Passes (tree_of x)
+computed types call.Ord (x ∷ []) t = tree_of x
 computed types call.Chr (x ∷ []) t = whole (in_range (Some (pos 0, pos 255)) (integer_of x))
 computed types call.Succ (x ∷ []) t = whole (in_host types (Hosted types t) (integer_of x +ℤ pos 1))
 computed types call.Pred (x ∷ []) t = whole (in_host types (Hosted types t) (integer_of x -ℤ pos 1))
@@ -96,16 +98,16 @@ computed types call.Concat xs t = making types.dialect (read_texts (texts_in typ
 computed types call.StrLTrim (x ∷ []) t = making types.dialect (read_text (text_in types x) &> λ bs. Passes (without_spaces bs))
 computed types call.StrRTrim (x ∷ []) t = making types.dialect (read_text (text_in types x) &> λ bs. Passes (trimmed_right bs))
 computed types call.StrRpt (x ∷ n ∷ []) t = making types.dialect (read_text (text_in types x) &> λ bs. repeated bs (integer_of n))
-computed types c xs t = Lacks
+computed types c xs t = Misfits
 
 unfoldable pub truth_value : Bool → Tree
 truth_value b = Whole (of_bool b)
 
 -- what a function gives
 unfoldable pub call_value : PredefCall → List Operand → (type : ℕ) → Prog Tree
-call_value call.Eof xs t = ask (λ s v. Some (truth_value (at_end v.input)))
-call_value call.Eoln xs t = ask (λ s v. Some v.input) >>= λ bs. check (λ types. at_line_end types.dialect bs &> λ b. Passes (truth_value b))
-call_value call.EscapeCode xs t = ask (λ s v. Some (Whole v.escape_code))
+call_value call.Eof xs t = ask (λ s v. Passes (truth_value (at_end v.input)))
+call_value call.Eoln xs t = ask (λ s v. Passes v.input) >>= λ bs. check (λ types. at_line_end types.dialect bs &> λ b. Passes (truth_value b))
+call_value call.EscapeCode xs t = ask (λ s v. Passes (Whole v.escape_code))
 call_value c xs t = check (λ types. computed types c xs t)
 
 -- ---- exits
@@ -117,43 +119,45 @@ halt_with (x ∷ xs) = check (λ types. in_range (Some (pos 0, pos 199)) (intege
 -- the escape codes are those of HP's integer
 unfoldable pub escape_with : List Operand → Prog (Unit {0})
 escape_with (x ∷ []) = check (λ types. in_range (Some (negsuc 2147483647, pos 2147483647)) (integer_of x)) >>= λ z. stop (Raise (Escape z))
-escape_with _ = stop ReadUndefined
+escape_with _ = stop Malformed
 
 -- the activation of an enclosing block
 unfoldable pub activation_of : Owner → Prog ℕ
-activation_of o = ask (λ s v. enclosing v.activations s.here o)
+activation_of o = ask (λ s v. there (enclosing v.activations s.here o))
 
 unfoldable pub leave : Owner → Prog (Unit {0})
 leave o = activation_of o >>= λ a. stop (Leave a)
 
 unfoldable pub leave_named : List Operand → Prog (Unit {0})
 leave_named (Named (CalleeRoutine k) ∷ []) = leave (Routine k)
-leave_named _ = stop ReadUndefined
+leave_named _ = stop Malformed
 
 -- ---- the heap
 
-unfoldable pub domain_of : Option PasType → ℕ
-domain_of (Some (Pointer domain)) = domain
-domain_of _ = 0
+unfoldable pub domain_of : Option PasType → Checked ℕ
+domain_of (Some (Pointer domain)) = Passes domain
+domain_of _ = Misfits
 
-unfoldable pub with_new : Types → ℕ → View → View
-with_new types t v = record v { heap = v.heap ++ (Some (fresh types t) ∷ []) }
+-- a variable that a pointer of the type may point to
+unfoldable pub with_new : Types → Option PasType → View → Checked View
+with_new types pointer v = domain_of pointer &> λ t. expect (is_type types t) &> λ u. Passes (record v { heap = v.heap ++ (Some (fresh types t) ∷ []) })
 
 unfoldable pub make_new : List Operand → Prog (Unit {0})
-make_new (Target p ∷ []) = ask (λ s v. Some (length v.heap)) >>= λ h. update (λ types v. Some (with_new types (domain_of (type_at types p.of)) v)) >> store p (HeapNumber h)
-make_new _ = stop ReadUndefined
+make_new (Target p ∷ []) = ask (λ s v. Passes (length v.heap)) >>= λ h. update (λ types v. with_new types (type_at types p.of) v) >> store p (HeapNumber h)
+make_new _ = stop Malformed
 
-unfoldable pub without_heap : ℕ → View → Option View
-without_heap h v = elim (base_tree v (Heap h)) [ Some t ↦ Some (record v { heap = slice_set v.heap h None }) | None ↦ None ]
+unfoldable pub without_heap : ℕ → View → Checked View
+without_heap h v = base_tree v (Heap h) &> λ t. Passes (record v { heap = slice_set v.heap h None })
 
 unfoldable pub disposable : Tree → Checked ℕ
 disposable NilPointer = Fails NilUse
 disposable (HeapNumber h) = Passes h
-disposable _ = Lacks
+disposable Undefined = Lacks
+disposable _ = Misfits
 
 unfoldable pub dispose : List Operand → Prog (Unit {0})
-dispose (x ∷ []) = check (λ types. disposable (tree_of x)) >>= λ h. update (λ types v. without_heap h v)
-dispose _ = stop ReadUndefined
+dispose (x ∷ []) = check (λ types. tree_of x &> λ t. disposable t) >>= λ h. update (λ types v. without_heap h v)
+dispose _ = stop Malformed
 
 -- ---- pack and unpack
 
@@ -186,7 +190,7 @@ index_range types _ = None
 
 -- the place of the index i in an array from which n components are wanted, else `OutOfRange`
 unfoldable pub part_from : Option (ℤ × ℤ) → ℤ → ℕ → Checked ℕ
-part_from None i n = Lacks
+part_from None i n = Misfits
 part_from (Some r) i n = when (int_le r.0 i && int_le (i +ℤ pos n) (r.1 +ℤ pos 1)) OutOfRange (unsigned_abs (i -ℤ r.0))
 
 -- the number of components of the packed array, and the index in the unpacked one
@@ -196,12 +200,12 @@ part_in types z a i = let n = size_of (index_range types (type_at types z)) in p
 unfoldable pub pack : List Operand → Prog (Unit {0})
 pack (Given a v ∷ i ∷ Target z ∷ []) = check (λ types. part_in types z.of a (integer_of i)) >>= λ r.
     of_types (λ types. component_type (type_at types z.of)) >>= λ t. put_components z t 0 (first_trees r.0 (dropped r.1 (trees_of v)))
-pack _ = stop ReadUndefined
+pack _ = stop Malformed
 
 unfoldable pub unpack : List Operand → Prog (Unit {0})
 unpack (Given z v ∷ Target a ∷ i ∷ []) = check (λ types. part_in types z a.of (integer_of i)) >>= λ r.
     of_types (λ types. component_type (type_at types a.of)) >>= λ t. put_components a t r.1 (trees_of v)
-unpack _ = stop ReadUndefined
+unpack _ = stop Malformed
 
 -- ---- inc and dec
 
@@ -211,12 +215,12 @@ step_by p n = read_spot p >>= λ t. check (λ types. exact (number_of t +ℤ n))
 unfoldable pub increase : List Operand → Prog (Unit {0})
 increase (Target p ∷ []) = step_by p (pos 1)
 increase (Target p ∷ n ∷ []) = step_by p (integer_of n)
-increase _ = stop ReadUndefined
+increase _ = stop Malformed
 
 unfoldable pub decrease : List Operand → Prog (Unit {0})
 decrease (Target p ∷ []) = step_by p (negsuc 0)
 decrease (Target p ∷ n ∷ []) = step_by p (neg_ℤ (integer_of n))
-decrease _ = stop ReadUndefined
+decrease _ = stop Malformed
 
 -- ---- strings that are changed
 
@@ -233,40 +237,40 @@ store_text p c = check (λ types. making types.dialect c) >>= λ t. assign p Non
 
 unfoldable pub insert : List Operand → Prog (Unit {0})
 insert (x ∷ Target p ∷ i ∷ []) = read_operand x >>= λ bs. read_held p >>= λ cs. store_text p (inserted bs cs (integer_of i))
-insert _ = stop ReadUndefined
+insert _ = stop Malformed
 
 unfoldable pub delete : List Operand → Prog (Unit {0})
 delete (Target p ∷ i ∷ n ∷ []) = read_held p >>= λ bs. store_text p (deleted bs (integer_of i) (integer_of n))
-delete _ = stop ReadUndefined
+delete _ = stop Malformed
 
 unfoldable pub append : List Operand → Prog (Unit {0})
 append (Target p ∷ x ∷ []) = read_held p >>= λ bs. read_operand x >>= λ cs. store_text p (Passes (bs ++ cs))
-append _ = stop ReadUndefined
+append _ = stop Malformed
 
 -- Turbo: the text that `write` gives
 unfoldable pub to_text : List Operand → Prog (Unit {0})
 to_text (Shown t v k ∷ Target p ∷ []) = check (λ types. written types.dialect (type_at types t) k v) >>= λ bs. store_text p (Passes bs)
-to_text _ = stop ReadUndefined
+to_text _ = stop Malformed
 
 unfoldable pub value_of_text : List Operand → Prog (Unit {0})
 value_of_text (x ∷ Target i ∷ Target code ∷ []) = read_operand x >>= λ bs. assign i None (Whole (valued 1 bs).0) >> assign code None (Whole (pos (valued 1 bs).1))
-value_of_text _ = stop ReadUndefined
+value_of_text _ = stop Malformed
 
 -- the length alone is set
 unfoldable pub set_length : List Operand → Prog (Unit {0})
 set_length (Target p ∷ n ∷ []) = check (λ types. limit_of (type_at types p.of) &> λ limit. when (int_le (pos 0) (integer_of n) && int_le (integer_of n) limit) LongText (Whole (integer_of n)))
     >>= λ t. store_copy (component p 0 0) t
-set_length _ = stop ReadUndefined
+set_length _ = stop Malformed
 
 -- ---- input and output
 
 unfoldable pub read_one : Operand → Prog (Unit {0})
 read_one (Target p) = read_into p
-read_one _ = stop ReadUndefined
+read_one _ = stop Malformed
 
 unfoldable pub write_one : Operand → Prog (Unit {0})
 write_one (Shown t v k) = check (λ types. written types.dialect (type_at types t) k v) >>= λ bs. print bs
-write_one _ = stop ReadUndefined
+write_one _ = stop Malformed
 
 -- each is evaluated, and then read or written, before the next one
 unfoldable pub one_by_one : (Operand → Prog (Unit {0})) → List (Prog Operand) → Prog (Unit {0})
@@ -296,7 +300,7 @@ acted call.Str xs = to_text xs
 acted call.Val xs = value_of_text xs
 acted call.StrAppend xs = append xs
 acted call.SetStrLen xs = set_length xs
-acted _ xs = stop ReadUndefined
+acted _ xs = stop Malformed
 
 unfoldable pub call_statement : PredefCall → List (Prog Operand) → Prog (Unit {0})
 call_statement call.Read ps = one_by_one read_one ps

@@ -10,7 +10,7 @@ use Rattle.typed_tree.specs.Ranges.{type_at}
 use Rattle.typed_tree.specs.Fields.{Variant, Choice, variants_around}
 use Rattle.meanings.specs.declared.errors.RuntimeError.TheVariants.{NoLabel, InactiveVariant}
 use Rattle.meanings.specs.Values.{Tree, Undefined, SetOf, ArrayOf, tree}
-use Rattle.meanings.specs.Outcomes.{ReadUndefined, Checked, Passes, Fails, Lacks, ◌&>◌}
+use Rattle.meanings.specs.Outcomes.{Malformed, Checked, Passes, Fails, Misfits, ◌&>◌}
 use Rattle.meanings.specs.Programs.{Prog, ◌>>=◌, ◌>>◌, pure, stop, ask, check, print}
 use Rattle.pascal_meaning.specs.declared.operations.Primitive.{Primitive}
 use Rattle.pascal_meaning.specs.declared.operations.Primitive.TheVariants as p
@@ -25,14 +25,14 @@ use Rattle.pascal_meaning.specs.Statements.{on_unary, operated}
 -- ---- checks
 
 -- the cell 0 of a string
-unfoldable pub first_cell : Tree → Tree
-first_cell (ArrayOf (tree c ts)) = c
-first_cell _ = Undefined
+unfoldable pub first_cell : Tree → Checked Tree
+first_cell (ArrayOf (tree c ts)) = Passes c
+first_cell _ = Misfits
 
 unfoldable pub in_reach : Reach → Tree → ℤ → Checked ℤ
 in_reach (InRange r) s i = in_range (Some r) i
-in_reach ToLength s i = byte_of (first_cell s) &> λ n. in_range (Some (pos 1, pos n)) i
-in_reach NoIndex s i = Lacks
+in_reach ToLength s i = first_cell s &> λ c. byte_of c &> λ n. in_range (Some (pos 1, pos n)) i
+in_reach NoIndex s i = Misfits
 
 unfoldable pub innermost : List (Choice × Variant) → Option Variant
 innermost [] = None
@@ -40,7 +40,7 @@ innermost (v ∷ []) = Some v.1
 innermost (v ∷ w ∷ vs) = innermost (w ∷ vs)
 
 unfoldable pub selects : Option Variant → ℤ → Checked ℤ
-selects None z = Lacks
+selects None z = Misfits
 selects (Some v) z = when (among v.labels z) InactiveVariant z
 
 unfoldable pub a_pointer : Tree → Checked Tree
@@ -60,17 +60,17 @@ set_made c = c &> λ s. Passes (SetOf s)
 
 unfoldable pub included : Tree → ℤ → Checked Tree
 included (SetOf s) z = set_made (with_member s z)
-included _ z = Lacks
+included _ z = Misfits
 
 unfoldable pub range_included : Tree → (first last : ℤ) → Checked Tree
 range_included (SetOf s) first last = set_made (with_members s first last)
-range_included _ first last = Lacks
+range_included _ first last = Misfits
 
--- a value that is written, with a width where one stands
+-- a value that is written, with a width where one stands, or else an operand that is not written
 unfoldable pub written_operand : (type : ℕ) → (wide : Bool) → List Operand → Operand
-written_operand t true (x ∷ k ∷ xs) = Shown t (tree_of x) (Some (integer_of k))
-written_operand t w (x ∷ xs) = Shown t (tree_of x) None
-written_operand t w [] = Shown t Undefined None
+written_operand t true (Given u v ∷ k ∷ xs) = Shown t v (Some (integer_of k))
+written_operand t w (Given u v ∷ xs) = Shown t v None
+written_operand t w _ = Given t Undefined
 
 unfoldable pub last_operand : Operand → List Operand → Operand
 last_operand x [] = x
@@ -84,8 +84,8 @@ target_of (x ∷ xs) = last_operand x xs
 
 -- an operator on two operands of these types
 unfoldable pub by_operator : BinaryOp → (left right : ℕ) → List Operand → Prog Tree
-by_operator o l r (x ∷ y ∷ []) = check (λ types. operated types o (type_at types l) (tree_of x) (type_at types r) (tree_of y))
-by_operator o l r _ = stop ReadUndefined
+by_operator o l r (x ∷ y ∷ []) = check (λ types. tree_of x &> λ t. tree_of y &> λ u. operated types o (type_at types l) t (type_at types r) u)
+by_operator o l r _ = stop Malformed
 
 -- a function of one or more operands, the first of this type
 unfoldable pub by_call : PredefCall → (first type : ℕ) → List Operand → Prog Tree
@@ -97,28 +97,28 @@ unfoldable pub no_answer : Prog (Unit {0}) → Prog Tree
 no_answer q = q >> pure Undefined
 
 unfoldable pub store_into : (target source : ℕ) → List Operand → Prog (Unit {0})
-store_into t s (Target q ∷ x ∷ []) = ask (λ c v. Some (type_at c.program.types s)) >>= λ source. assign (record q { of = t }) source (tree_of x)
-store_into t s _ = stop ReadUndefined
+store_into t s (Target q ∷ x ∷ []) = ask (λ c v. Passes (type_at c.program.types s)) >>= λ source. check (λ types. tree_of x) >>= λ u. assign (record q { of = t }) source u
+store_into t s _ = stop Malformed
 
 unfoldable pub read_target : ℕ → List Operand → Prog (Unit {0})
 read_target t (Target q ∷ []) = read_into (record q { of = t })
-read_target t _ = stop ReadUndefined
+read_target t _ = stop Malformed
 
 -- what the operands of a check decide
 unfoldable pub decided : Types → Primitive → List Operand → Checked Tree
-decided types p.Negate (x ∷ []) = on_unary unary.Minus (tree_of x)
-decided types p.BitNot (x ∷ []) = on_unary unary.BitNot (tree_of x)
+decided types p.Negate (x ∷ []) = tree_of x &> λ t. on_unary unary.Minus t
+decided types p.BitNot (x ∷ []) = tree_of x &> λ t. on_unary unary.BitNot t
 decided types (p.Range first last) (x ∷ []) = whole (in_range (Some (first, last)) (integer_of x))
-decided types (p.StringIndex string) (x ∷ i ∷ []) = whole (in_reach (reach_of types (type_at types string)) (tree_of x) (integer_of i))
-decided types (p.NotNil pointer) (x ∷ []) = a_pointer (tree_of x)
+decided types (p.StringIndex string) (x ∷ i ∷ []) = tree_of x &> λ s. whole (in_reach (reach_of types (type_at types string)) s (integer_of i))
+decided types (p.NotNil pointer) (x ∷ []) = tree_of x &> λ t. a_pointer t
 decided types p.NoCase xs = Fails NoLabel
 decided types (p.Selected r f) (x ∷ []) = whole (selects (innermost (variants_around (type_at types r) f)) (integer_of x))
-decided types (p.TextLength string) (x ∷ []) = counted (length_of (text_of (type_at types string) (tree_of x)))
-decided types (p.TextRead text) (x ∷ []) = read_text (text_of (type_at types text) (tree_of x)) &> λ bs. Passes Undefined
-decided types p.Include (x ∷ y ∷ []) = included (tree_of x) (integer_of y)
-decided types p.IncludeRange (x ∷ y ∷ z ∷ []) = range_included (tree_of x) (integer_of y) (integer_of z)
-decided types (p.Convert target text) (x ∷ []) = converted types target (type_at types text) (tree_of x)
-decided types _ xs = Lacks
+decided types (p.TextLength string) (x ∷ []) = tree_of x &> λ t. counted (length_of (text_of (type_at types string) t))
+decided types (p.TextRead text) (x ∷ []) = tree_of x &> λ t. read_text (text_of (type_at types text) t) &> λ bs. Passes Undefined
+decided types p.Include (x ∷ y ∷ []) = tree_of x &> λ s. included s (integer_of y)
+decided types p.IncludeRange (x ∷ y ∷ z ∷ []) = tree_of x &> λ s. range_included s (integer_of y) (integer_of z)
+decided types (p.Convert target text) (x ∷ []) = tree_of x &> λ t. converted types target (type_at types text) t
+decided types _ xs = Misfits
 
 unfoldable pub perform : Primitive → List Operand → Prog Tree
 perform p.Add xs = by_operator op.Add 0 0 xs
@@ -153,7 +153,7 @@ perform (p.Pred ordinal) xs = by_call call.Pred ordinal ordinal xs
 perform p.Eof xs = by_call call.Eof 0 0 []
 perform p.Eoln xs = by_call call.Eoln 0 0 []
 perform p.EscapeCode xs = by_call call.EscapeCode 0 0 []
-perform p.LookAhead xs = ask (λ s v. Some v.input) >>= λ bs. check (λ types. whole (look_ahead bs))
+perform p.LookAhead xs = ask (λ s v. Passes v.input) >>= λ bs. check (λ types. whole (look_ahead bs))
 perform p.UpCase xs = by_call call.UpCase 0 0 xs
 perform (p.Length text) xs = by_call call.Length text 0 xs
 perform (p.StrLen text) xs = by_call call.StrLen text 0 xs

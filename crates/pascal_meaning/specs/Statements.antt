@@ -19,7 +19,7 @@ use Rattle.meanings.specs.declared.errors.RuntimeError.TheVariants.{NoLabel}
 use Rattle.meanings.specs.Errors.{error_number}
 use Rattle.meanings.specs.Values.{Tree, Undefined, Whole, SetOf, NilPointer, HeapNumber, Reference, RoutineValue}
 use Rattle.meanings.specs.Worlds.{Slot, Refers, Calls}
-use Rattle.meanings.specs.Outcomes.{Cause, Error, Escape, Exit, Goto, Raise, ReadUndefined, Checked, Passes, Fails, Lacks}
+use Rattle.meanings.specs.Outcomes.{Cause, Error, Escape, Exit, Goto, Raise, Malformed, Checked, Passes, Fails, Misfits, there}
 use Rattle.meanings.specs.Programs.{Passed, Setting, Heading, Prog, ◌>>=◌, ◌>>◌, pure, stop, choose, ask, check, update, here, collect, handle, below, run_routine, turns}
 use Rattle.meanings.specs.Names.{find_name, with_slot, contains, block_of, label_owner}
 use Rattle.meanings.specs.Memory.{solid}
@@ -46,7 +46,7 @@ same_pointer _ _ = false
 unfoldable pub on_pointers : BinaryOp → Tree → Tree → Checked Tree
 on_pointers binary.Equal t u = Passes (Whole (of_bool (same_pointer t u)))
 on_pointers binary.Unequal t u = Passes (Whole (of_bool (not (same_pointer t u))))
-on_pointers _ t u = Lacks
+on_pointers _ t u = Misfits
 
 -- an operator on two values, each with its type; the types tell which texts are dynamic strings
 unfoldable pub operated : Types → BinaryOp → Option PasType → Tree → Option PasType → Tree → Checked Tree
@@ -103,26 +103,34 @@ select_all (f ∷ fs) p = f p >>= λ q. select_all fs q
 
 -- `input^` is the next character; every other place is selected and read
 unfoldable pub read_place : Root → Prog Spot → Prog Tree
-read_place root.Input p = ask (λ s v. Some v.input) >>= λ bs. check (λ types. whole (look_ahead bs))
+read_place root.Input p = ask (λ s v. Passes v.input) >>= λ bs. check (λ types. whole (look_ahead bs))
 read_place r p = p >>= λ q. read_spot q
 
 -- ---- calls
 
-unfoldable pub routine_named : Option (ℕ × Slot) → Option RoutineValue
-routine_named (Some (a, Calls c)) = Some c
-routine_named _ = None
+unfoldable pub routine_named : Option (ℕ × Slot) → Checked RoutineValue
+routine_named (Some (a, Calls c)) = Passes c
+routine_named _ = Misfits
 
 unfoldable pub parent_of : Option Heading → Prog ℕ
 parent_of (Some h) = activation_of h.parent
-parent_of None = stop ReadUndefined
+parent_of None = stop Malformed
 
 -- a routine with the activation of its static parent, or the value of a procedural parameter
 unfoldable pub resolve : Callee → Prog RoutineValue
-resolve (callee.Routine k) = ask (λ s v. Some (block_of s.program.blocks (Routine k))) >>= λ h. parent_of h >>= λ a. pure (record { routine = k; parent = a })
+resolve (callee.Routine k) = ask (λ s v. Passes (block_of s.program.blocks (Routine k))) >>= λ h. parent_of h >>= λ a. pure (record { routine = k; parent = a })
 resolve (callee.Formal d) = ask (λ s v. routine_named (find_name v.activations s.here d))
 
 unfoldable pub call_routine : Callee → List (Prog Passed) → Prog Tree
 call_routine c args = collect args >>= λ passed. resolve c >>= λ r. run_routine r passed
+
+-- a procedure has no value
+unfoldable pub answered : Tree → Checked Tree
+answered Undefined = Misfits
+answered t = Passes t
+
+unfoldable pub call_function : Callee → List (Prog Passed) → Prog Tree
+call_function c args = call_routine c args >>= λ t. check (λ types. answered t)
 
 -- ---- sequences and gotos
 
@@ -166,7 +174,7 @@ unfoldable pub sequence : List Item → Prog (Unit {0})
 sequence is = turns (λ from. handle (own_goto (labels_of is)) (begin_at from is >> pure None)) First
 
 unfoldable pub goto : ℕ → Prog (Unit {0})
-goto l = ask (λ s v. label_owner s.program.blocks l) >>= λ o. activation_of o >>= λ a. stop (Goto a l)
+goto l = ask (λ s v. there (label_owner s.program.blocks l)) >>= λ o. activation_of o >>= λ a. stop (Goto a l)
 
 -- ---- loops
 
@@ -217,7 +225,7 @@ cases (c ∷ cs) rest t = choose (among c.0 (number_of t)) c.1 (cases cs rest t)
 
 -- a name of this activation that stands for a reference
 unfoldable pub bind_reference : ℕ → Reference → Prog (Unit {0})
-bind_reference d r = here >>= λ a. update (λ types v. Some (record v { activations = with_slot v.activations a d (Refers r) }))
+bind_reference d r = here >>= λ a. update (λ types v. Passes (record v { activations = with_slot v.activations a d (Refers r) }))
 
 -- each reference is made in the scope of those before it
 unfoldable pub with_all : List (ℕ × Prog Reference) → Prog (Unit {0}) → Prog (Unit {0})
@@ -234,7 +242,7 @@ code_of (Escape n) = n
 
 unfoldable pub recover_from : Prog (Unit {0}) → Option Cause → Prog (Unit {0})
 recover_from p None = pure tt
-recover_from p (Some c) = update (λ types v. Some (record v { escape_code = code_of c })) >> p
+recover_from p (Some c) = update (λ types v. Passes (record v { escape_code = code_of c })) >> p
 
 unfoldable pub try_recover : Prog (Unit {0}) → Prog (Unit {0}) → Prog (Unit {0})
 try_recover body recover = handle raised (body >> pure None) >>= λ c. recover_from recover c

@@ -7,8 +7,8 @@ use Rattle.typed_tree.specs.declared.types.PasType.TheVariants.{DynString}
 use Rattle.typed_tree.specs.declared.operations.BinaryOp.{BinaryOp}
 use Rattle.typed_tree.specs.declared.operations.BinaryOp.TheVariants.{Join, Equal, Unequal, Less, Greater, LessEq, GreaterEq}
 use Rattle.meanings.specs.declared.errors.RuntimeError.TheVariants.{LongText}
-use Rattle.meanings.specs.Values.{Tree, Whole, ArrayOf, Trees, no_trees, tree}
-use Rattle.meanings.specs.Outcomes.{Checked, Passes, Lacks, ◌&>◌}
+use Rattle.meanings.specs.Values.{Tree, Undefined, Whole, ArrayOf, Trees, no_trees, tree}
+use Rattle.meanings.specs.Outcomes.{Checked, Passes, Lacks, Misfits, ◌&>◌}
 use Rattle.pascal_meaning.specs.Numbers.{when, of_bool}
 
 -- a text before its cells are read
@@ -33,7 +33,8 @@ count (tree t ts) = suc (count ts)
 -- a cell as it is read
 unfoldable pub byte_of : Tree → Checked ℕ
 byte_of (Whole z) = Passes (unsigned_abs z)
-byte_of _ = Lacks
+byte_of Undefined = Lacks
+byte_of _ = Misfits
 
 -- the cells of the characters
 unfoldable pub cells_of : Text → Trees
@@ -73,7 +74,7 @@ compare_cells zero (suc n) ts us = Passes Before
 compare_cells (suc m) zero ts us = Passes After
 compare_cells (suc m) (suc n) (tree t ts) (tree u us) = byte_of t &> λ b. byte_of u &> λ c.
     elim (nat_lt b c) [ true ↦ Passes Before | false ↦ elim (nat_lt c b) [ true ↦ Passes After | false ↦ compare_cells m n ts us ] ]
-compare_cells (suc m) (suc n) _ _ = Lacks
+compare_cells (suc m) (suc n) _ _ = Misfits
 
 unfoldable pub compare : Text → Text → Checked Order
 compare t u = length_of t &> λ m. length_of u &> λ n. compare_cells m n (cells_of t) (cells_of u)

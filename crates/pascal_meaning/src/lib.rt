@@ -1,8 +1,9 @@
 //! The meaning of Pascal in four dialects, as definitions in `specs/`, and what holds of it.
 //!
 //! `Pas typed input n` is the answer of a typed program at the bound `n`: its end with output, status
-//! and routine entries, or what was written and entered before something undefined was read, or
-//! before the bound cut it off. `Whole.run` is the same under a name that unfolds every definition:
+//! and routine entries, or what was written and entered before something undefined was read, before
+//! something was come to that stands in no tree that an elaboration makes, or before the bound cut it
+//! off. `Whole.run` is the same under a name that unfolds every definition:
 //! a worked program is `refl` under `unfolding run`. The laws are the contracts of `laws`.
 //!
 //! | Definitions | What they say |

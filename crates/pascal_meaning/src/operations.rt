@@ -10,7 +10,7 @@ use typed_tree::{BinaryOp, DeclId, TypeId};
 /// `halt`, `escape` and the forms of `exit` are no primitives, since they are statements of every
 /// language below; what they check is `Range`. `concat` reads each text by `TextRead`, and then joins
 /// them by `Join`.
-#[derive(Clone, Copy, Debug, PartialEq, Eq)]
+#[derive(Clone, Copy)]
 pub enum Primitive {
     // Whole numbers: two of them, or one.
     Add,
