@@ -5,12 +5,13 @@ use Rattle.typed_tree.specs.declared.types.PasType.{PasType}
 use Rattle.typed_tree.specs.declared.types.PasType.TheVariants.{DynString}
 use Rattle.typed_tree.specs.declared.declarations.Owner.TheVariants.{Program, UnitPart, Routine}
 use Rattle.typed_tree.specs.declared.declarations.VarDecl.{VarDecl}
+use Rattle.typed_tree.specs.declared.declarations.FormalKind.{FormalKind, Value as ValueKind, Variable as VariableKind}
 use Rattle.typed_tree.specs.declared.declarations.FormalSection.{FormalSection}
 use Rattle.typed_tree.specs.Ranges.{type_at}
 use Rattle.meanings.specs.Errors.{error_number}
 use Rattle.meanings.specs.Values.{Tree, Undefined, ArrayOf, tree, RoutineValue, Variable}
 use Rattle.meanings.specs.Worlds.{Slot, Holds, Refers, Calls, Activation, World, View}
-use Rattle.meanings.specs.Outcomes.{Cause, Error, Escape, Exit, Goto, Leave, Raise, Halt, ReadUndefined, Malformed, Cut, Outcome, Normal, Exits, Checked, Passes, Lacks, ◌&>◌, expect}
+use Rattle.meanings.specs.Outcomes.{Cause, Error, Escape, Exit, Goto, Leave, Raise, Halt, ReadUndefined, Malformed, Cut, Outcome, Normal, Exits, Checked, Passes, Lacks, Misfits, ◌&>◌, expect}
 use Rattle.meanings.specs.Programs.{Passed, ByValue, ByReference, ByRoutine, Run, Level, Outline, Setting, Prog, ◌>>=◌, ◌>>◌, pure, ask, check, enter, record_entry, handle, at_activation}
 use Rattle.meanings.specs.Memory.{base_tree, tree_at, kept, solid, solid_at}
 use Rattle.meanings.specs.Fresh.{new_variables, have_types}
@@ -61,9 +62,29 @@ result_variable (Some v) = v ∷ []
 unfoldable pub own_variables : RoutineCode → List VarDecl
 own_variables r = result_variable r.result ++ r.locals
 
--- an argument stands for each parameter, and the types are there
-unfoldable pub is_begun_well : Types → RoutineCode → List Passed → Bool
-is_begun_well types r args = nat_eq (length (formal_names r.formals)) (length args) && have_types types (own_variables r)
+unfoldable pub is_of_kind : FormalKind → Passed → Bool
+is_of_kind (ValueKind type) (ByValue t) = true
+is_of_kind (VariableKind type) (ByReference r) = true
+is_of_kind (ValueKind type) _ = false
+is_of_kind (VariableKind type) _ = false
+is_of_kind procedural (ByRoutine c) = true
+is_of_kind procedural _ = false
+
+-- the arguments begin with those of a section
+unfoldable pub after_section : FormalKind → List ℕ → List Passed → Checked (List Passed)
+after_section kind [] args = Passes args
+after_section kind (d ∷ ds) [] = Misfits
+after_section kind (d ∷ ds) (a ∷ as') = expect (is_of_kind kind a) &> λ u. after_section kind ds as'
+
+-- an argument of its kind stands for each parameter
+unfoldable pub fit_formals : List FormalSection → List Passed → Checked (Unit {0})
+fit_formals [] [] = Passes tt
+fit_formals [] (a ∷ as') = Misfits
+fit_formals (f ∷ fs) args = after_section f.kind f.decls args &> λ rest. fit_formals fs rest
+
+-- the arguments fit, and the types are there
+unfoldable pub begins_well : Types → RoutineCode → List Passed → Checked (Unit {0})
+begins_well types r args = fit_formals r.formals args &> λ u. expect (have_types types (own_variables r))
 
 unfoldable pub new_activation : Types → RoutineCode → RoutineValue → List Passed → ℕ → Activation
 new_activation types r c args n = record {
@@ -102,7 +123,7 @@ result_of (Some r) = ask (result_in r)
 
 -- the arguments are read again before the routine is entered
 unfoldable pub activation : RoutineCode → RoutineValue → List Passed → Prog Tree
-activation r c args = check (λ types. expect (is_begun_well types r args)) >> ask (λ s v. all_stand args v)
+activation r c args = check (λ types. begins_well types r args) >> ask (λ s v. all_stand args v)
     >> (ask (λ s v. Passes s.program.types) >>= λ types. enter (new_activation types r c args))
     >> record_entry r.number >> handle own_leave r.run >> result_of r.result
 

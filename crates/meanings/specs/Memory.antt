@@ -73,9 +73,9 @@ unfoldable pub with_base : View → Base → Tree → View
 with_base v (Variable a d) t = record v { activations = with_slot v.activations a d (Holds t) }
 with_base v (Heap h) t = record v { heap = slice_set v.heap h (Some t) }
 
--- a store, where the variable is there
+-- a store, where the place is there
 unfoldable pub stored : View → Reference → Tree → Checked View
-stored v r t = base_tree v r.base &> λ old. Passes (with_base v r.base (with_subtree r.path old t))
+stored v r t = base_tree v r.base &> λ old. there (subtree r.path old) &> λ u. Passes (with_base v r.base (with_subtree r.path old t))
 
 unfoldable pub kept : {X : Type 0} → Checked Tree → X → Checked X
 kept c x = c &> λ t. Passes x

@@ -12,6 +12,7 @@ use Rattle.typed_tree.specs.declared.declarations.Callee.{Callee}
 use Rattle.typed_tree.specs.declared.operations.UnaryOp.{UnaryOp}
 use Rattle.typed_tree.specs.declared.operations.PredefCall.{PredefCall}
 use Rattle.meanings.specs.Values.{Tree}
+use Rattle.meanings.specs.Outcomes.{Passes, ◌&>◌}
 use Rattle.meanings.specs.Programs.{Prog, ByReference, ◌>>=◌, pure, check, collect}
 use Rattle.pascal_meaning.specs.Sets.{empty_set}
 use Rattle.pascal_meaning.specs.Numbers.{number_of}
@@ -129,7 +130,7 @@ pub operand_written : (e : TypedExpr) → operand (arg.Written e None) ≡ (Valu
 unfolding Value
 operand_written e = refl
 
-pub operand_wide : (e k : TypedExpr) → operand (arg.Written e (Some k)) ≡ (Value e >>= λ v. (Value k >>= λ z. pure (Some (number_of z))) >>= λ k. pure (Shown (expr_type e) v k))
+pub operand_wide : (e k : TypedExpr) → operand (arg.Written e (Some k)) ≡ (Value e >>= λ v. (Value k >>= λ z. check (λ types. number_of z &> λ n. Passes (Some n))) >>= λ k. pure (Shown (expr_type e) v k))
 unfolding Value
 operand_wide e k = refl
 

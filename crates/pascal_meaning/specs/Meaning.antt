@@ -17,15 +17,15 @@ use Rattle.typed_tree.specs.declared.declarations.Body.{Body}
 use Rattle.typed_tree.specs.declared.declarations.Typed.{Typed}
 use Rattle.typed_tree.specs.Ranges.{type_at}
 use Rattle.meanings.specs.Values.{Tree, Whole, NilPointer, Reference}
-use Rattle.meanings.specs.Outcomes.{Malformed}
-use Rattle.meanings.specs.Programs.{Passed, ByValue, ByReference, ByRoutine, Heading, Outline, Prog, ◌>>=◌, ◌>>◌, pure, stop, choose, check, collect}
+use Rattle.meanings.specs.Outcomes.{Malformed, Passes, ◌&>◌}
+use Rattle.meanings.specs.Programs.{Passed, ByValue, ByReference, ByRoutine, Heading, Outline, Prog, ◌>>=◌, ◌>>◌, pure, stop, check, collect}
 use Rattle.meanings.specs.Code.{RoutineCode, BlockCode, Code, Answer, answer}
-use Rattle.pascal_meaning.specs.Numbers.{number_of, holds}
+use Rattle.pascal_meaning.specs.Numbers.{number_of}
 use Rattle.pascal_meaning.specs.Sets.{empty_set}
 use Rattle.pascal_meaning.specs.Texts.{made}
 use Rattle.pascal_meaning.specs.Places.{Spot, root_type, root_spot, field_spot, index_spot, follow_spot, refer, converted, assigned, store}
 use Rattle.pascal_meaning.specs.Predefined.{Operand, Given, Target, Shown, Named, call_value, call_statement}
-use Rattle.pascal_meaning.specs.Statements.{on_unary, Part, go_on, Element, Member, Members, with_elements, select_all, read_place, resolve, call_routine, call_function, Item, sequence, goto, while_loop, repeat_loop, for_loop, no_case, cases, with_all, try_recover}
+use Rattle.pascal_meaning.specs.Statements.{on_unary, choose_by, Part, go_on, Element, Member, Members, with_elements, select_all, read_place, resolve, call_routine, call_function, Item, sequence, goto, while_loop, repeat_loop, for_loop, no_case, cases, with_all, try_recover}
 
 -- ---- types of expressions
 
@@ -112,7 +112,7 @@ unfoldable mutual
 
   pub width : Held-TypedArg-Written-1 → Prog (Option ℤ)
   width X.None' = pure None
-  width (X.Some' e) = Value e >>= λ v. pure (Some (number_of v))
+  width (X.Some' e) = Value e >>= λ v. check (λ types. number_of v &> λ z. Passes (Some z))
 
 -- the place that is selected
 unfoldable pub Select : Place → Prog Spot
@@ -132,7 +132,7 @@ unfoldable mutual
   Exec (S.Predefined c args) = call_statement c (map operand args)
   Exec (S.Goto l) = goto l
   Exec (S.Seq' shape row) = sequence (items row)
-  Exec (S.If' e p (S.more_of-TypedStmt body S.end_of-TypedStmt) other) = Value e >>= λ v. choose (holds v) (Exec body) (otherwise (pure tt) other)
+  Exec (S.If' e p (S.more_of-TypedStmt body S.end_of-TypedStmt) other) = Value e >>= λ v. choose_by v (Exec body) (otherwise (pure tt) other)
   Exec (S.Case' e shape row rest) = Value e >>= λ v. cases (arms row) (otherwise no_case rest) v
   Exec (S.While' e p (S.more_of-TypedStmt body S.end_of-TypedStmt)) = while_loop (Value e) (Exec body)
   Exec (S.Repeat' shape row e) = repeat_loop (sequence (items row)) (Value e)

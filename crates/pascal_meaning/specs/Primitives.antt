@@ -1,5 +1,5 @@
 -- What each primitive does with its operands, in their order.
-use Rattle.std.specs.Prelude.{ℕ, ℤ, pos, Bool, true, List, [], ◌∷◌, Option, Some, None}
+use Rattle.std.specs.Prelude.{ℕ, ℤ, pos, Bool, true, false, List, [], ◌∷◌, Option, Some, None}
 use Rattle.typed_tree.specs.declared.types.Types.{Types}
 use Rattle.typed_tree.specs.declared.operations.BinaryOp.{BinaryOp}
 use Rattle.typed_tree.specs.declared.operations.BinaryOp.TheVariants as op
@@ -15,7 +15,7 @@ use Rattle.meanings.specs.Programs.{Prog, ◌>>=◌, ◌>>◌, pure, stop, ask, 
 use Rattle.pascal_meaning.specs.declared.operations.Primitive.{Primitive}
 use Rattle.pascal_meaning.specs.declared.operations.Primitive.TheVariants as p
 use Rattle.pascal_meaning.specs.Numbers.{when, in_range, whole}
-use Rattle.pascal_meaning.specs.Sets.{with_member, with_members}
+use Rattle.pascal_meaning.specs.Sets.{set_of, with_member, with_members}
 use Rattle.pascal_meaning.specs.Texts.{text_of, length_of, byte_of, read_text}
 use Rattle.pascal_meaning.specs.Places.{among, Reach, InRange, ToLength, NoIndex, reach_of, pointed, converted, assign}
 use Rattle.pascal_meaning.specs.Input.{read_into, read_line, look_ahead}
@@ -43,6 +43,7 @@ unfoldable pub selects : Option Variant → ℤ → Checked ℤ
 selects None z = Misfits
 selects (Some v) z = when (among v.labels z) InactiveVariant z
 
+-- a pointer that is not nil
 unfoldable pub a_pointer : Tree → Checked Tree
 a_pointer t = pointed t &> λ h. Passes t
 
@@ -59,18 +60,16 @@ unfoldable pub set_made : Checked (List Bool) → Checked Tree
 set_made c = c &> λ s. Passes (SetOf s)
 
 unfoldable pub included : Tree → ℤ → Checked Tree
-included (SetOf s) z = set_made (with_member s z)
-included _ z = Misfits
+included t z = set_of t &> λ s. set_made (with_member s z)
 
 unfoldable pub range_included : Tree → (first last : ℤ) → Checked Tree
-range_included (SetOf s) first last = set_made (with_members s first last)
-range_included _ first last = Misfits
+range_included t first last = set_of t &> λ s. set_made (with_members s first last)
 
--- a value that is written, with a width where one stands, or else an operand that is not written
-unfoldable pub written_operand : (type : ℕ) → (wide : Bool) → List Operand → Operand
-written_operand t true (Given u v ∷ k ∷ xs) = Shown t v (Some (integer_of k))
-written_operand t w (Given u v ∷ xs) = Shown t v None
-written_operand t w _ = Given t Undefined
+-- a value that is written, with a width where one stands
+unfoldable pub written_operand : (type : ℕ) → (wide : Bool) → List Operand → Checked Operand
+written_operand t true (x ∷ k ∷ xs) = tree_of x &> λ v. integer_of k &> λ z. Passes (Shown t v (Some z))
+written_operand t false (x ∷ xs) = tree_of x &> λ v. Passes (Shown t v None)
+written_operand t w _ = Misfits
 
 unfoldable pub last_operand : Operand → List Operand → Operand
 last_operand x [] = x
@@ -108,15 +107,15 @@ read_target t _ = stop Malformed
 unfoldable pub decided : Types → Primitive → List Operand → Checked Tree
 decided types p.Negate (x ∷ []) = tree_of x &> λ t. on_unary unary.Minus t
 decided types p.BitNot (x ∷ []) = tree_of x &> λ t. on_unary unary.BitNot t
-decided types (p.Range first last) (x ∷ []) = whole (in_range (Some (first, last)) (integer_of x))
-decided types (p.StringIndex string) (x ∷ i ∷ []) = tree_of x &> λ s. whole (in_reach (reach_of types (type_at types string)) s (integer_of i))
+decided types (p.Range first last) (x ∷ []) = whole (integer_of x &> λ z. in_range (Some (first, last)) z)
+decided types (p.StringIndex string) (x ∷ i ∷ []) = tree_of x &> λ s. whole (integer_of i &> λ i. in_reach (reach_of types (type_at types string)) s i)
 decided types (p.NotNil pointer) (x ∷ []) = tree_of x &> λ t. a_pointer t
 decided types p.NoCase xs = Fails NoLabel
-decided types (p.Selected r f) (x ∷ []) = whole (selects (innermost (variants_around (type_at types r) f)) (integer_of x))
+decided types (p.Selected r f) (x ∷ []) = whole (integer_of x &> λ z. selects (innermost (variants_around (type_at types r) f)) z)
 decided types (p.TextLength string) (x ∷ []) = tree_of x &> λ t. counted (length_of (text_of (type_at types string) t))
 decided types (p.TextRead text) (x ∷ []) = tree_of x &> λ t. read_text (text_of (type_at types text) t) &> λ bs. Passes Undefined
-decided types p.Include (x ∷ y ∷ []) = tree_of x &> λ s. included s (integer_of y)
-decided types p.IncludeRange (x ∷ y ∷ z ∷ []) = tree_of x &> λ s. range_included s (integer_of y) (integer_of z)
+decided types p.Include (x ∷ y ∷ []) = tree_of x &> λ s. integer_of y &> λ z. included s z
+decided types p.IncludeRange (x ∷ y ∷ z ∷ []) = tree_of x &> λ s. integer_of y &> λ first. integer_of z &> λ last. range_included s first last
 decided types (p.Convert target text) (x ∷ []) = tree_of x &> λ t. converted types target (type_at types text) t
 decided types _ xs = Misfits
 
@@ -172,13 +171,13 @@ perform p.Get xs = no_answer (acted call.Get [])
 perform p.Page xs = no_answer (acted call.Page [])
 perform (p.Read target) xs = no_answer (read_target target xs)
 perform p.Readln xs = no_answer read_line
-perform (p.Write t w) xs = no_answer (write_one (written_operand t w xs))
+perform (p.Write t w) xs = no_answer (check (λ types. written_operand t w xs) >>= λ x. write_one x)
 perform p.Writeln xs = no_answer (print (10 ∷ []))
 perform (p.Inc target) (x ∷ xs) = no_answer (acted call.Inc (typed target x ∷ xs))
 perform (p.Dec target) (x ∷ xs) = no_answer (acted call.Dec (typed target x ∷ xs))
 perform (p.Insert text target) (x ∷ y ∷ i ∷ []) = no_answer (acted call.Insert (typed text x ∷ typed target y ∷ i ∷ []))
 perform (p.Delete target) (x ∷ xs) = no_answer (acted call.Delete (typed target x ∷ xs))
-perform (p.NumberText number target w) xs = no_answer (acted call.Str (written_operand number w xs ∷ typed target (target_of xs) ∷ []))
+perform (p.NumberText number target w) xs = no_answer (check (λ types. written_operand number w xs) >>= λ x. acted call.Str (x ∷ typed target (target_of xs) ∷ []))
 perform (p.Val text i code) (x ∷ y ∷ z ∷ []) = no_answer (acted call.Val (typed text x ∷ typed i y ∷ typed code z ∷ []))
 perform (p.StrAppend target text) (x ∷ y ∷ []) = no_answer (acted call.StrAppend (typed target x ∷ typed text y ∷ []))
 perform (p.SetStrLen target) (x ∷ xs) = no_answer (acted call.SetStrLen (typed target x ∷ xs))

@@ -31,7 +31,9 @@
 //!   is written, as the number of Turbo's `str`, else a `Value`. The array from which `pack` copies is
 //!   a `Value`, and so is the one from which `unpack` copies. The string of `strmax` may be either. A
 //!   file stands among no arguments.
-//! - A tree that does not fit its types has some meaning too, of which nothing is promised.
+//! - A tree that no elaboration makes has the answer `MalformedAfter` as soon as it comes to a name, a
+//!   routine, a label, a field or a type that is not there, or to a value, an operand or an argument of
+//!   another kind than is wanted there. Its types are not compared otherwise.
 #![tactic(auto)]
 
 pub mod laws;

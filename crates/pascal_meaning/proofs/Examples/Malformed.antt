@@ -13,6 +13,7 @@ use Rattle.typed_tree.specs.declared.declarations.VarDecl.{VarDecl}
 use Rattle.typed_tree.specs.declared.declarations.Routine.{Routine}
 use Rattle.typed_tree.specs.declared.types.PasType.{PasType}
 use Rattle.typed_tree.specs.declared.operations.BinaryOp.TheVariants as op
+use Rattle.typed_tree.specs.declared.operations.UnaryOp.TheVariants as unary_op
 use Rattle.typed_tree.specs.declared.operations.PredefCall.TheVariants as call
 use Rattle.typed_tree.specs.declared.statements.TypedStmt as S
 use Rattle.typed_tree.specs.declared.statements.TypedStmt.{TypedStmt}
@@ -23,7 +24,7 @@ use Rattle.meanings.specs.Code.{MalformedAfter, UndefinedAfter}
 use Rattle.pascal_meaning.specs.declared.operations.Primitive.TheVariants as p
 use Rattle.pascal_meaning.specs.Predefined.{Given}
 use Rattle.pascal_meaning.specs.Whole.{run, perform_in}
-use Rattle.pascal_meaning.proofs.Examples.Build.{integer, char, boolean, own, known_types, field, num, letter, chain, read, variable, call, set, value_for, by_reference, shown, assign_to, try, perform, of_type, section, procedure, whole, InEach}
+use Rattle.pascal_meaning.proofs.Examples.Build.{integer, char, boolean, own, known_types, set_of, field, num, letter, quoted, unary, chain, read, variable, call, set, predefined, value_for, by_reference, shown, wide, assign_to, if_then, while, for_of, try, case_of, perform, of_type, section, section_var, section_procedures, procedure, whole, InEach}
 
 -- the program with these types, routines and variables writes x, and then this statement is malformed, in each dialect
 abbrev IsMalformed : List PasType → List Routine → List VarDecl → TypedStmt → Type 0
@@ -89,6 +90,65 @@ exit_of_a_routine_that_does_not_enclose : IsMalformed [] (procedure 1 Program []
 unfolding run
 exit_of_a_routine_that_does_not_enclose = (refl, (refl, (refl, (refl, tt))))
 
+value_for_a_variable_parameter : IsMalformed [] (procedure 1 Program (section_var integer (1 ∷ []) ∷ []) [] [] (S.Empty ∷ []) ∷ []) [] (S.Call (CalleeRoutine 1) (value_for integer (num 1) ∷ []))
+unfolding run
+value_for_a_variable_parameter = (refl, (refl, (refl, (refl, tt))))
+
+routine_for_a_value_parameter : IsMalformed [] (procedure 1 Program (section integer (1 ∷ []) ∷ []) [] [] (S.Empty ∷ []) ∷ []) [] (S.Call (CalleeRoutine 1) (arg.RoutineValue (CalleeRoutine 1) ∷ []))
+unfolding run
+routine_for_a_value_parameter = (refl, (refl, (refl, (refl, tt))))
+
+value_for_a_procedural_parameter : IsMalformed [] (procedure 1 Program (section_procedures (1 ∷ []) ∷ []) [] [] (S.Empty ∷ []) ∷ []) [] (S.Call (CalleeRoutine 1) (value_for integer (num 1) ∷ []))
+unfolding run
+value_for_a_procedural_parameter = (refl, (refl, (refl, (refl, tt))))
+
+-- ---- values of another kind
+
+-- if [] then
+set_that_is_tested : IsMalformed [] [] [] (if_then (set own []) S.Empty)
+unfolding run
+set_that_is_tested = (refl, (refl, (refl, (refl, tt))))
+
+-- while nil do
+pointer_that_is_tested : IsMalformed [] [] [] (while X.Nil S.Empty)
+unfolding run
+pointer_that_is_tested = (refl, (refl, (refl, (refl, tt))))
+
+-- case 'ab' of
+text_that_selects_a_case : IsMalformed [] [] [] (case_of (quoted own (codes "ab")) [])
+unfolding run
+text_that_selects_a_case = (refl, (refl, (refl, (refl, tt))))
+
+-- var i: integer; for i := 1 to nil do
+pointer_as_a_limit : IsMalformed [] [] (of_type integer 1 ∷ []) (for_of integer 1 false (num 1) X.Nil S.Empty)
+unfolding run
+pointer_as_a_limit = (refl, (refl, (refl, (refl, tt))))
+
+-- var i: integer; i := nil
+pointer_for_a_number : IsMalformed [] [] (of_type integer 1 ∷ []) (assign_to integer (variable 1 integer) [] X.Nil)
+unfolding run
+pointer_for_a_number = (refl, (refl, (refl, (refl, tt))))
+
+-- var p: ^integer; p := 1
+number_for_a_pointer : IsMalformed (Pointer integer ∷ []) [] (of_type 5 1 ∷ []) (assign_to 5 (variable 1 5) [] (num 1))
+unfolding run
+number_for_a_pointer = (refl, (refl, (refl, (refl, tt))))
+
+-- var s: set of Boolean; s := 1
+number_for_a_set : IsMalformed (set_of boolean ∷ []) [] (of_type 5 1 ∷ []) (assign_to 5 (variable 1 5) [] (num 1))
+unfolding run
+number_for_a_set = (refl, (refl, (refl, (refl, tt))))
+
+-- var r: record a: integer end; r := 1
+number_for_a_record : IsMalformed (RecordOf false (field 1 integer ∷ []) None ∷ []) [] (of_type 5 2 ∷ []) (assign_to 5 (variable 2 5) [] (num 1))
+unfolding run
+number_for_a_record = (refl, (refl, (refl, (refl, tt))))
+
+-- var i: integer; i.a := 1
+field_of_a_number : IsMalformed [] [] (of_type integer 1 ∷ []) (assign_to integer (variable 1 integer) (selector.Field 2 integer ∷ []) (num 1))
+unfolding run
+field_of_a_number = (refl, (refl, (refl, (refl, tt))))
+
 -- ---- operands
 
 -- begin write('x'); new(1) end.
@@ -131,6 +191,41 @@ value_that_is_read_into = (refl, (refl, (refl, (refl, tt))))
 function_that_is_no_statement : IsMalformed [] [] [] (perform call.Abs (value_for integer (num 1) ∷ []))
 unfolding run
 function_that_is_no_statement = (refl, (refl, (refl, (refl, tt))))
+
+-- begin write('x'); write(abs([])) end.
+absolute_value_of_a_set : IsMalformed [] [] [] (perform call.Write (shown (predefined call.Abs (value_for own (set own []) ∷ []) integer) ∷ []))
+unfolding run
+absolute_value_of_a_set = (refl, (refl, (refl, (refl, tt))))
+
+-- begin write('x'); write(abs(1, 2)) end.
+absolute_value_of_two_numbers : IsMalformed [] [] [] (perform call.Write (shown (predefined call.Abs (value_for integer (num 1) ∷ value_for integer (num 2) ∷ []) integer) ∷ []))
+unfolding run
+absolute_value_of_two_numbers = (refl, (refl, (refl, (refl, tt))))
+
+-- begin write('x'); write(-nil) end.
+sign_before_a_pointer : IsMalformed [] [] [] (perform call.Write (shown (unary integer unary_op.Minus X.Nil) ∷ []))
+unfolding run
+sign_before_a_pointer = (refl, (refl, (refl, (refl, tt))))
+
+-- begin write('x'); write('ab' + 'cd') end., where `+` is that of numbers
+sum_of_texts : IsMalformed [] [] [] (perform call.Write (shown (chain (quoted own (codes "ab")) ((op.Add, quoted own (codes "cd"), integer) ∷ [])) ∷ []))
+unfolding run
+sum_of_texts = (refl, (refl, (refl, (refl, tt))))
+
+-- begin write('x'); write(nil = 1) end.
+pointer_compared_with_a_number : IsMalformed [] [] [] (perform call.Write (shown (chain X.Nil ((op.Equal, num 1, boolean) ∷ [])) ∷ []))
+unfolding run
+pointer_compared_with_a_number = (refl, (refl, (refl, (refl, tt))))
+
+-- begin write('x'); write(1: nil) end.
+pointer_as_a_width : IsMalformed [] [] [] (perform call.Write (wide (num 1) X.Nil ∷ []))
+unfolding run
+pointer_as_a_width = (refl, (refl, (refl, (refl, tt))))
+
+-- begin write('x'); halt(1, 2) end.
+halt_with_two_numbers : IsMalformed [] [] [] (perform call.Halt (value_for integer (num 1) ∷ value_for integer (num 2) ∷ []))
+unfolding run
+halt_with_two_numbers = (refl, (refl, (refl, (refl, tt))))
 
 sum_of_one_operand : (w : World) → perform_in (record { dialect = Iso; list = known_types }) p.Add (Given integer (Whole (pos 1)) ∷ []) w ≡ Exits Malformed w
 unfolding perform_in
