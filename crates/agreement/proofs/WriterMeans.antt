@@ -9,9 +9,10 @@ use Rattle.typed_tree.specs.declared.statements.TypedStmt.{TypedStmt}
 use Rattle.typed_tree.specs.Ranges.{type_at}
 use Rattle.meanings.specs.Values.{Whole}
 use Rattle.meanings.specs.Worlds.{World}
-use Rattle.meanings.specs.Outcomes.{Outcome, Normal, Passes, ◌&>◌}
+use Rattle.meanings.specs.Outcomes.{Outcome, Normal, Passes, ◌&>◌, expect}
 use Rattle.meanings.specs.Programs.{Level, Setting, Prog, pure, ◌>>◌, ◌>>=◌, check, print, handle, turns}
-use Rattle.meanings.specs.Code.{End, answer, answer_of, whole_program, initial_parts, start, level}
+use Rattle.meanings.specs.Fresh.{each_is, have_types}
+use Rattle.meanings.specs.Code.{End, answer, answer_of, each_has_types, whole_program, initial_parts, start, level}
 use Rattle.pascal_meaning.specs.Texts.{count, byte_of, read_cells, cells, cells_of, length_of, made, text_of as seen_text}
 use Rattle.pascal_meaning.specs.Output.{width_of, written, shown as shown_value, shown_text, shown_length, padded, places}
 use Rattle.pascal_meaning.specs.Predefined.{one_by_one, write_one, call_statement}
@@ -160,5 +161,5 @@ types_are d ws = record { char = refl; literal = at }
     at (suc t) p bs = literal_written d (slice_get (all_types ws) t) bs (literal_at ws t)
 
 pub means : (d : Dialect) (ws : List Writing) (input : List ℕ) (n : ℕ) → Pas (typed_writer d ws) input n ≡ End (all_bytes ws) 0 []
-unfolding Pas answer answer_of whole_program initial_parts code outline block_code start pure ◌>>◌
+unfolding Pas answer answer_of each_is have_types each_has_types whole_program initial_parts code outline block_code start check expect pure ◌>>◌
 means d ws input n = rw (body_put (record { program = (code (typed_writer d ws)).outline; here = 0 }) (types_are d ws) (level (code (typed_writer d ws)) n) ws (start (code (typed_writer d ws)) input)) refl

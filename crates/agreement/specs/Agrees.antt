@@ -1,7 +1,7 @@
 -- When a C text agrees with a Pascal program.
 use Rattle.std.specs.Prelude.{ℕ, List}
 use Rattle.typed_tree.specs.declared.declarations.Typed.{Typed}
-use Rattle.meanings.specs.Code.{Answer, End, UndefinedAfter, CutAfter}
+use Rattle.meanings.specs.Code.{Answer, End, UndefinedAfter, MalformedAfter, CutAfter}
 use Rattle.pascal_meaning.specs.Meaning.{Pas}
 use Rattle.c_tree.specs.declared.program.CProgram.{CProgram}
 use Rattle.c_grammar.specs.Text.{CText}
@@ -13,6 +13,7 @@ abbrev pub told : Answer → PascalAnswer
 told (End output status entries) = c.End output status entries
 told (CutAfter output entries) = c.Cut output entries
 told (UndefinedAfter output entries) = c.Undefined output entries
+told (MalformedAfter output entries) = c.Malformed output entries
 
 -- what a typed program answers on an input at a bound
 abbrev pub pascal : Typed → (input : List ℕ) → (n : ℕ) → PascalAnswer

@@ -4,7 +4,7 @@ use Rattle.c_tree.specs.declared.program.CProgram.{CProgram}
 use Rattle.c_meaning.specs.declared.StuckKind.{StuckKind}
 use Rattle.c_meaning.specs.Runs.{CAnswer, Going, End, Stuck, CRun}
 use Rattle.c_meaning.specs.Follows as p
-use Rattle.c_meaning.specs.Follows.{PascalAnswer, output_of, calls_of, Extends, IsDefined, Follows}
+use Rattle.c_meaning.specs.Follows.{PascalAnswer, output_of, calls_of, Extends, IsDefined, IsWellFormed, Follows}
 use Rattle.c_meaning.specs.Laws.{IsFinal, Shows, FollowsByThree}
 use Rattle.c_meaning.proofs.Later.{final_stays, going_is_extended}
 
@@ -24,7 +24,7 @@ not_before c input m j q o k f l h g =
     let e : Going o k ≡ q = sym g ∙ final_stays c input m j q f l h in
     subst IsFinal (sym e) f
 
-module _ (pascal : ℕ → PascalAnswer) (c : CProgram) (input : List ℕ)
+module _ (pascal : ℕ → PascalAnswer) (c : CProgram) (input : List ℕ) (well : IsWellFormed pascal)
     (ends : (n : ℕ) (output : List ℕ) (status : ℕ) (calls : List ℕ) → pascal n ≡ p.End output status calls → (m : ℕ) × (CRun c input m ≡ End output status calls))
     (goes_on : (n : ℕ) (output calls : List ℕ) → pascal n ≡ p.Cut output calls → (m : ℕ) × (n ≤ m) × (CRun c input m ≡ Going output calls))
     (defined : IsDefined pascal) where
@@ -33,6 +33,7 @@ module _ (pascal : ℕ → PascalAnswer) (c : CProgram) (input : List ℕ)
   found m q f h (p.End o s k) e = let j = ends m o s k e in (o, s, k, e, one_answer c input m j.0 q (End o s k) f tt h j.1)
   found m q f h (p.Cut o k) e = let j = goes_on m o k e in absurd (not_before c input m j.0 q o k f j.1 h j.2)
   found m q f h (p.Undefined o k) e = absurd (defined m o k e)
+  found m q f h (p.Malformed o k) e = absurd (well m o k e)
 
   ends_only : (m : ℕ) (o : List ℕ) (s : ℕ) (k : List ℕ) → CRun c input m ≡ End o s k → (n : ℕ) × (pascal n ≡ p.End o s k)
   ends_only m o s k h =
@@ -52,16 +53,18 @@ module _ (pascal : ℕ → PascalAnswer) (c : CProgram) (input : List ℕ)
       elim (order m j.0) [ inl l ↦ subst (Shows o k) j.1 (going_is_extended c input m j.0 o k l h) | inr l ↦ absurd (not_before c input j.0 m (End o' s k') o k tt l j.1 h) ]
   covered m o k h (p.Cut o' k') e = let j = goes_on m o' k' e in subst (Shows o k) j.2 (going_is_extended c input m j.0 o k j.1 h)
   covered m o k h (p.Undefined o' k') e = absurd (defined m o' k' e)
+  covered m o k h (p.Malformed o' k') e = absurd (well m o' k' e)
 
   goes_on_only : (m : ℕ) (o k : List ℕ) → CRun c input m ≡ Going o k → (n : ℕ) × Extends o (output_of (pascal n)) × Extends k (calls_of (pascal n))
   goes_on_only m o k h = let both = covered m o k h (pascal m) refl in (m, both.0, both.1)
 
 pub follows_by_three : FollowsByThree
-follows_by_three pascal c input ends goes_on reaches = record {
+follows_by_three pascal c input well ends goes_on reaches = record {
+  well_formed = well;
   ends = ends;
-  never_stuck = λ d. never_stuck pascal c input ends goes_on d;
-  ends_only = λ d. ends_only pascal c input ends goes_on d;
+  never_stuck = λ d. never_stuck pascal c input well ends goes_on d;
+  ends_only = λ d. ends_only pascal c input well ends goes_on d;
   goes_on = goes_on;
-  goes_on_only = λ d. goes_on_only pascal c input ends goes_on d;
+  goes_on_only = λ d. goes_on_only pascal c input well ends goes_on d;
   reaches_undefined = reaches;
 }

@@ -5,23 +5,26 @@ use Rattle.c_meaning.specs.declared.StuckKind.{StuckKind}
 use Rattle.c_meaning.specs.Runs as c
 use Rattle.c_meaning.specs.Runs.{CAnswer, CRun}
 
--- the answer of a Pascal program at a bound: it ended, was cut at the bound, or read what is undefined
+-- the answer of a Pascal program at a bound: it ended, was cut at the bound, read what is undefined, or came to what stands in no tree that an elaboration makes
 pub data PascalAnswer : Type 0 where
   End : (output : List ℕ) (status : ℕ) (calls : List ℕ) → PascalAnswer
   Cut : (output calls : List ℕ) → PascalAnswer
   Undefined : (output calls : List ℕ) → PascalAnswer
+  Malformed : (output calls : List ℕ) → PascalAnswer
 
 -- what it has written
 abbrev pub output_of : PascalAnswer → List ℕ
 output_of (End output status calls) = output
 output_of (Cut output calls) = output
 output_of (Undefined output calls) = output
+output_of (Malformed output calls) = output
 
 -- the routines that it has entered
 abbrev pub calls_of : PascalAnswer → List ℕ
 calls_of (End output status calls) = calls
 calls_of (Cut output calls) = calls
 calls_of (Undefined output calls) = calls
+calls_of (Malformed output calls) = calls
 
 -- one list goes on from another
 pub record Extends (front whole : List ℕ) : Type 0 where
@@ -32,8 +35,14 @@ pub record Extends (front whole : List ℕ) : Type 0 where
 abbrev pub IsDefined : (ℕ → PascalAnswer) → Type 0
 IsDefined pascal = (n : ℕ) (output calls : List ℕ) → pascal n ≡ Undefined output calls → ⊥
 
+-- at no bound is the answer malformed
+abbrev pub IsWellFormed : (ℕ → PascalAnswer) → Type 0
+IsWellFormed pascal = (n : ℕ) (output calls : List ℕ) → pascal n ≡ Malformed output calls → ⊥
+
 -- the two meanings follow each other
 pub record Follows (pascal : ℕ → PascalAnswer) (run : ℕ → CAnswer) : Type 0 where
+  -- nothing follows a program whose tree is malformed
+  pub well_formed : IsWellFormed pascal
   -- where the one ends, the other ends, with the same output, status and calls
   pub ends : (n : ℕ) (output : List ℕ) (status : ℕ) (calls : List ℕ) → pascal n ≡ End output status calls → (m : ℕ) × (run m ≡ c.End output status calls)
   -- if nothing undefined is read, C is never stuck

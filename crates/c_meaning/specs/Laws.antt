@@ -7,7 +7,7 @@ use Rattle.c_meaning.specs.Steps.{Next, Onward, Ended, Halted, CStep}
 use Rattle.c_meaning.specs.Runs.{CAnswer, Going, End, Stuck, start, run_from, CRun}
 use Rattle.c_meaning.specs.Changes.{Changes, touched}
 use Rattle.c_meaning.specs.Follows as p
-use Rattle.c_meaning.specs.Follows.{PascalAnswer, Extends, Follows}
+use Rattle.c_meaning.specs.Follows.{PascalAnswer, Extends, IsWellFormed, Follows}
 
 -- ---- runs
 
@@ -31,9 +31,9 @@ Shows output calls (Stuck kind output') = Extends output output'
 abbrev pub GoingIsExtended : Type 0
 GoingIsExtended = (c : CProgram) (input : List ℕ) (m j : ℕ) (output calls : List ℕ) → m ≤ j → CRun c input m ≡ Going output calls → Shows output calls (CRun c input j)
 
--- the run of C follows the Pascal meaning as soon as it ends where that ends, goes on where that is cut, and reaches what is undefined
+-- the run of C follows the Pascal meaning of a well-formed tree as soon as it ends where that ends, goes on where that is cut, and reaches what is undefined
 abbrev pub FollowsByThree : Type 0
-FollowsByThree = (pascal : ℕ → PascalAnswer) (c : CProgram) (input : List ℕ)
+FollowsByThree = (pascal : ℕ → PascalAnswer) (c : CProgram) (input : List ℕ) → IsWellFormed pascal
     → ((n : ℕ) (output : List ℕ) (status : ℕ) (calls : List ℕ) → pascal n ≡ p.End output status calls → (m : ℕ) × (CRun c input m ≡ End output status calls))
     → ((n : ℕ) (output calls : List ℕ) → pascal n ≡ p.Cut output calls → (m : ℕ) × (n ≤ m) × (CRun c input m ≡ Going output calls))
     → ((n : ℕ) (output calls : List ℕ) → pascal n ≡ p.Undefined output calls → (m : ℕ) × (CRun c input m ≡ Going output calls))

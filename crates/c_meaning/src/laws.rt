@@ -17,8 +17,8 @@ pub fn step_only_adds()
     ensures { StepAdds }
 {}
 
-/// That C ends only so, is never stuck, and writes no more than the Pascal program follows from
-/// the other points.
+/// For a well-formed tree, that C ends only so, is never stuck, and writes no more than the Pascal
+/// program follows from the other points.
 pub fn follows_by_three()
     ensures { FollowsByThree }
 {}

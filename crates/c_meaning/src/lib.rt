@@ -1,7 +1,8 @@
 //! The meaning of the C subset, as definitions in `specs/`, and what holds of it.
 //!
 //! `CRun c input m` is the answer of the program `c` after `m` steps on `input`, and `CStep c state`
-//! is one step. `Follows` says how the answers of a Pascal program and of its C belong together.
+//! is one step. `Follows` says how the answers of a Pascal program and of its C belong together; no C
+//! follows a program whose tree is malformed.
 //! `Whole.run` and `Whole.step` are the same two under names that unfold every definition: a worked
 //! program is `refl` under `unfolding run`. The laws are the contracts of `laws`; a proof may also
 //! take them as lemmas from `proofs/` (`Later`, `Backward`, `Grows`, `Touched`, `Stays`, `Reached`).

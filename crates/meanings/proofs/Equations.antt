@@ -2,7 +2,7 @@
 use Rattle.std.proofs.Common.{◌≡◌, Bool, true, false, refl}
 use mathlib.Core.Path.{fun_ext}
 use Rattle.meanings.specs.Worlds.{World}
-use Rattle.meanings.specs.Outcomes.{Outcome, Normal, Exits, and_then, Checked, Passes, Fails, Lacks, ◌&>◌, checked}
+use Rattle.meanings.specs.Outcomes.{Outcome, Normal, Exits, and_then, Checked, Passes, Fails, Lacks, Misfits, ◌&>◌, checked}
 use Rattle.meanings.specs.Programs.{Prog, ◌>>=◌, ◌>>◌, pure, choose, check}
 
 and_then_assoc : {X Y Z : Type 0} (r : Outcome X) (f : X → World → Outcome Y) (g : Y → World → Outcome Z) → and_then (and_then r f) g ≡ and_then r (λ x w. and_then (f x w) g)
@@ -60,6 +60,7 @@ unfolding ◌&>◌
 checked_then (Passes x) f w = refl
 checked_then (Fails e) f w = refl
 checked_then Lacks f w = refl
+checked_then Misfits f w = refl
 
 pub check_check : {X Y : Type 0} (c : _ → Checked X) (f : _ → X → Checked Y) → (check c >>= λ x. check (λ types. f types x)) ≡ check (λ types. c types &> f types)
 unfolding ◌>>=◌ check

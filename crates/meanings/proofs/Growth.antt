@@ -3,8 +3,8 @@ use Rattle.std.proofs.Common.{◌≡◌, ℕ, List, [], ◌∷◌, ◌++◌, ref
 use Rattle.typed_tree.specs.declared.types.Types.{Types}
 use Rattle.meanings.specs.Values.{RoutineValue}
 use Rattle.meanings.specs.Worlds.{Activation, World, View, view}
-use Rattle.meanings.specs.Outcomes.{Exit, Goto, Leave, Raise, Halt, ReadUndefined, Cut, Outcome, Normal, Exits, world_of, and_then, Checked, Passes, Fails, Lacks, checked}
-use Rattle.meanings.specs.Programs.{Passed, Run, Level, Setting, Prog, ◌>>=◌, ◌>>◌, pure, stop, choose, supplied, ask, check, change, print, record_entry, enter, caught, handled, handle, below, run_routine, turns, at_activation}
+use Rattle.meanings.specs.Outcomes.{Exit, Goto, Leave, Raise, Halt, ReadUndefined, Malformed, Cut, Outcome, Normal, Exits, world_of, and_then, Checked, Passes, Fails, Lacks, Misfits, checked}
+use Rattle.meanings.specs.Programs.{Passed, Run, Level, Setting, Prog, ◌>>=◌, ◌>>◌, pure, stop, choose, ask, check, change, print, record_entry, enter, caught, handled, handle, below, run_routine, turns, at_activation}
 use Rattle.meanings.specs.Bounds.{IsPrefix, Grows, Fits, Same, IsCut, RunFits, AtMost, Ends, Further, Both, Steady}
 use Rattle.meanings.specs.Judgement.{Judgement}
 
@@ -64,20 +64,19 @@ unfolding choose
 steady_choose true m n = m
 steady_choose false m n = n
 
-pub steady_ask : {X : Type 0} (f : Setting → View → Option X) → Steady (ask f)
+checked_grows : {X : Type 0} (c : Checked X) (w : World) → Grows w (world_of (checked c w))
+checked_grows (Passes x) w = grows_refl w
+checked_grows (Fails e) w = grows_refl w
+checked_grows Lacks w = grows_refl w
+checked_grows Misfits w = grows_refl w
+
+pub steady_ask : {X : Type 0} (f : Setting → View → Checked X) → Steady (ask f)
 unfolding ask
-steady_ask f = record { by = λ l l' b s w. Same _ (go (f s (view w)) w) } where
-  go : {X : Type 0} (o : Option X) (w : World) → Grows w (world_of (supplied o w))
-  go None w = grows_refl w
-  go (Some x) w = grows_refl w
+steady_ask f = record { by = λ l l' b s w. Same _ (checked_grows (f s (view w)) w) }
 
 pub steady_check : {X : Type 0} (f : Types → Checked X) → Steady (check f)
 unfolding check
-steady_check f = record { by = λ l l' b s w. Same _ (go (f s.program.types) w) } where
-  go : {X : Type 0} (c : Checked X) (w : World) → Grows w (world_of (checked c w))
-  go (Passes x) w = grows_refl w
-  go (Fails e) w = grows_refl w
-  go Lacks w = grows_refl w
+steady_check f = record { by = λ l l' b s w. Same _ (checked_grows (f s.program.types) w) }
 
 pub steady_change : (v : View) → Steady (change v)
 unfolding change
@@ -106,6 +105,7 @@ handled_world test (Exits (Leave a) w) = caught_world (test (Leave a)) _ w
 handled_world test (Exits (Raise c) w) = caught_world (test (Raise c)) _ w
 handled_world test (Exits (Halt n) w) = caught_world (test (Halt n)) _ w
 handled_world test (Exits ReadUndefined w) = refl
+handled_world test (Exits Malformed w) = refl
 handled_world test (Exits Cut w) = refl
 
 pub fits_handled : {X : Type 0} {w : World} (test : Exit → Option X) {r r' : Outcome X} → Fits w r r' → Fits w (handled test r) (handled test r')

@@ -3,8 +3,8 @@ use Rattle.std.proofs.Common.{ℕ, suc, ◌≤◌, ◌<◌, List, [], ◌∷◌,
 use Rattle.typed_tree.specs.declared.types.Types.{Types}
 use Rattle.meanings.specs.Values.{RoutineValue}
 use Rattle.meanings.specs.Worlds.{Activation, World, View, view, changed, Temporaries, with_temporaries}
-use Rattle.meanings.specs.Outcomes.{Exit, Goto, Leave, Raise, Halt, ReadUndefined, Cut, Outcome, and_then, Checked, Passes, Fails, Lacks, checked}
-use Rattle.meanings.specs.Programs.{Passed, Level, Setting, Prog, ◌>>=◌, ◌>>◌, pure, stop, choose, supplied, ask, check, change, print, record_entry, enter, caught, handled, handle, below, run_routine, turns}
+use Rattle.meanings.specs.Outcomes.{Exit, Goto, Leave, Raise, Halt, ReadUndefined, Malformed, Cut, Outcome, and_then, Checked, Passes, Fails, Lacks, Misfits, checked}
+use Rattle.meanings.specs.Programs.{Passed, Level, Setting, Prog, ◌>>=◌, ◌>>◌, pure, stop, choose, ask, check, change, print, record_entry, enter, caught, handled, handle, below, run_routine, turns}
 use Rattle.meanings.specs.Judgement.{Judgement}
 use Rattle.meanings.specs.Temporaries.{Both, Normals, BothExit, Kept, KeptAll, SameLevels, Ends, And, Sim, Same}
 
@@ -62,20 +62,19 @@ unfolding choose
 sim_choose true g h = g
 sim_choose false g h = h
 
-pub sim_ask : {X : Type 0} (k : ℕ) (f : Setting → View → Option X) → Sim k (ask f) (ask f)
+both_checked : {X : Type 0} (k : ℕ) (s : Setting) (w : World) (m : Temporaries) (c : Checked X) → Both w.next (Kept s.here k w.next m) (checked c w) (checked c (with_temporaries w m))
+both_checked k s w m (Passes x) = Normals x w m (omega arith) (kept_refl _ _ _ _)
+both_checked k s w m (Fails e) = BothExit _ w m (omega arith) (kept_refl _ _ _ _)
+both_checked k s w m Lacks = BothExit _ w m (omega arith) (kept_refl _ _ _ _)
+both_checked k s w m Misfits = BothExit _ w m (omega arith) (kept_refl _ _ _ _)
+
+pub sim_ask : {X : Type 0} (k : ℕ) (f : Setting → View → Checked X) → Sim k (ask f) (ask f)
 unfolding ask
-sim_ask k f = record { by = λ s l l' w m b lt. go k s w m (f s (view w)) } where
-  go : {X : Type 0} (k : ℕ) (s : Setting) (w : World) (m : Temporaries) (o : Option X) → Both w.next (Kept s.here k w.next m) (supplied o w) (supplied o (with_temporaries w m))
-  go k s w m None = BothExit _ w m (omega arith) (kept_refl _ _ _ _)
-  go k s w m (Some x) = Normals x w m (omega arith) (kept_refl _ _ _ _)
+sim_ask k f = record { by = λ s l l' w m b lt. both_checked k s w m (f s (view w)) }
 
 pub sim_check : {X : Type 0} (k : ℕ) (f : Types → Checked X) → Sim k (check f) (check f)
 unfolding check
-sim_check k f = record { by = λ s l l' w m b lt. go k s w m (f s.program.types) } where
-  go : {X : Type 0} (k : ℕ) (s : Setting) (w : World) (m : Temporaries) (c : Checked X) → Both w.next (Kept s.here k w.next m) (checked c w) (checked c (with_temporaries w m))
-  go k s w m (Passes x) = Normals x w m (omega arith) (kept_refl _ _ _ _)
-  go k s w m (Fails e) = BothExit _ w m (omega arith) (kept_refl _ _ _ _)
-  go k s w m Lacks = BothExit _ w m (omega arith) (kept_refl _ _ _ _)
+sim_check k f = record { by = λ s l l' w m b lt. both_checked k s w m (f s.program.types) }
 
 pub sim_change : (k : ℕ) (v : View) → Sim k (change v) (change v)
 unfolding change
@@ -104,6 +103,7 @@ both_handled test (BothExit (Leave a) w m h i) = both_caught (test (Leave a)) _ 
 both_handled test (BothExit (Raise c) w m h i) = both_caught (test (Raise c)) _ w m h i
 both_handled test (BothExit (Halt n) w m h i) = both_caught (test (Halt n)) _ w m h i
 both_handled test (BothExit ReadUndefined w m h i) = BothExit _ w m h i
+both_handled test (BothExit Malformed w m h i) = BothExit _ w m h i
 both_handled test (BothExit Cut w m h i) = BothExit Cut w m h i
 
 pub sim_handle : {X : Type 0} {k : ℕ} (test : Setting → Exit → Option X) {p p' : Prog X} → Sim k p p' → Sim k (handle test p) (handle test p')

@@ -3,11 +3,11 @@ use Rattle.std.proofs.Common.{ℕ, zero, suc, ◌≤◌, List, [], refl, true, f
 use Rattle.typed_tree.specs.declared.declarations.VarDecl.{VarDecl}
 use Rattle.meanings.specs.Values.{RoutineValue}
 use Rattle.meanings.specs.Worlds.{World}
-use Rattle.meanings.specs.Outcomes.{Goto, Leave, Raise, Halt, ReadUndefined, Cut, Outcome, Normal, Exits, world_of}
+use Rattle.meanings.specs.Outcomes.{Goto, Leave, Raise, Halt, ReadUndefined, Malformed, Cut, Outcome, Normal, Exits, world_of}
 use Rattle.meanings.specs.Programs.{Passed, Level}
 use Rattle.meanings.specs.Code.{RoutineCode, BlockCode, Code, routine_at, result_of, activation, activate, extend, level, initial_parts, whole_program, start, exit_answer, answer_of, answer}
 use Rattle.meanings.specs.Bounds.{IsPrefix, Grows, Fits, Same, IsCut, AtMost, Ends, Further, Both, Steady, EachRoutine, NoRoutine, OneRoutine, EachBlock, NoBlock, OneBlock, SteadyCode, output_of, entries_of, Keeps, BoundsAgree}
-use Rattle.meanings.proofs.Growth.{prefix_refl, grows_refl, steady_bind, steady_then, steady_pure, steady_ask, steady_entry, steady_enter, steady_handle, steady_at}
+use Rattle.meanings.proofs.Growth.{prefix_refl, grows_refl, steady_bind, steady_then, steady_pure, steady_ask, steady_check, steady_entry, steady_enter, steady_handle, steady_at}
 
 steady_result : (r : Option VarDecl) → Steady (result_of r)
 unfolding result_of
@@ -16,7 +16,7 @@ steady_result (Some v) = steady_ask _
 
 steady_activation : (r : RoutineCode) → Steady r.run → (c : RoutineValue) (args : List Passed) → Steady (activation r c args)
 unfolding activation
-steady_activation r m c args = steady_then (steady_then (steady_then (steady_then (steady_ask _) (steady_bind (steady_ask _) (λ types. steady_enter _))) (steady_entry _)) (steady_handle _ m)) (steady_result r.result)
+steady_activation r m c args = steady_then (steady_then (steady_then (steady_then (steady_then (steady_check _) (steady_ask _)) (steady_bind (steady_ask _) (λ types. steady_enter _))) (steady_entry _)) (steady_handle _ m)) (steady_result r.result)
 
 -- the routine with a number, where there is one
 pub data Found : Option RoutineCode → Type 0 where
@@ -56,7 +56,7 @@ steady_parts a (OneBlock m e) = steady_then (steady_at a (steady_handle _ m)) (s
 
 pub steady_program : {p : Code} → SteadyCode p → Steady (whole_program p)
 unfolding whole_program
-steady_program h = steady_then (steady_parts 1 h.units) h.main
+steady_program h = steady_then (steady_then (steady_check _) (steady_parts 1 h.units)) h.main
 
 same_keeps : (r : Outcome (Unit {0})) → Keeps (answer_of r) (answer_of r)
 unfolding answer_of exit_answer
@@ -66,6 +66,7 @@ same_keeps (Exits (Leave a) w) = refl
 same_keeps (Exits (Raise c) w) = refl
 same_keeps (Exits (Halt n) w) = refl
 same_keeps (Exits ReadUndefined w) = refl
+same_keeps (Exits Malformed w) = refl
 same_keeps (Exits Cut w) = (prefix_refl w.output, prefix_refl w.entries)
 
 cut_keeps : (v : World) (r : Outcome (Unit {0})) → Grows v (world_of r) → IsPrefix v.output (output_of (answer_of r)) × IsPrefix v.entries (entries_of (answer_of r))
@@ -76,6 +77,7 @@ cut_keeps v (Exits (Leave a) w) g = (g.output, g.entries)
 cut_keeps v (Exits (Raise c) w) g = (g.output, g.entries)
 cut_keeps v (Exits (Halt n) w) g = (g.output, g.entries)
 cut_keeps v (Exits ReadUndefined w) g = (g.output, g.entries)
+cut_keeps v (Exits Malformed w) g = (g.output, g.entries)
 cut_keeps v (Exits Cut w) g = (g.output, g.entries)
 
 fits_keeps : {w : World} {r r' : Outcome (Unit {0})} → Fits w r r' → Keeps (answer_of r) (answer_of r')

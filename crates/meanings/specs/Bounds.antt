@@ -4,7 +4,7 @@ use Rattle.meanings.specs.Values.{RoutineValue}
 use Rattle.meanings.specs.Worlds.{World}
 use Rattle.meanings.specs.Outcomes.{Cut, Outcome, Exits, world_of}
 use Rattle.meanings.specs.Programs.{Passed, Run, Level, Setting, Prog}
-use Rattle.meanings.specs.Code.{RoutineCode, BlockCode, Code, Answer, End, UndefinedAfter, CutAfter, answer}
+use Rattle.meanings.specs.Code.{RoutineCode, BlockCode, Code, Answer, End, UndefinedAfter, MalformedAfter, CutAfter, answer}
 
 pub record IsPrefix {A : Type 0} (xs ys : List A) : Type 0 where
   pub more : List A
@@ -52,17 +52,20 @@ pub record SteadyCode (p : Code) : Type 0 where
 abbrev pub output_of : Answer → List ℕ
 output_of (End o s k) = o
 output_of (UndefinedAfter o k) = o
+output_of (MalformedAfter o k) = o
 output_of (CutAfter o k) = o
 
 abbrev pub entries_of : Answer → List ℕ
 entries_of (End o s k) = k
 entries_of (UndefinedAfter o k) = k
+entries_of (MalformedAfter o k) = k
 entries_of (CutAfter o k) = k
 
 -- a final answer stays, and a cut one is extended
 abbrev pub Keeps : Answer → Answer → Type 0
 Keeps (End o s k) b = b ≡ End o s k
 Keeps (UndefinedAfter o k) b = b ≡ UndefinedAfter o k
+Keeps (MalformedAfter o k) b = b ≡ MalformedAfter o k
 Keeps (CutAfter o k) b = IsPrefix o (output_of b) × IsPrefix k (entries_of b)
 
 -- at each greater bound a final answer of steady code is the same, and a cut one is extended

@@ -1,19 +1,20 @@
 -- A program in some language, and what it answers.
-use Rattle.std.specs.Prelude.{ℕ, zero, suc, pos, Bool, true, false, nat_eq, List, [], ◌∷◌, ◌++◌, length, Option, Some, None}
+use Rattle.std.specs.Prelude.{ℕ, zero, suc, pos, Bool, true, false, ◌&&◌, nat_eq, List, [], ◌∷◌, ◌++◌, length, Option, Some, None}
 use Rattle.typed_tree.specs.declared.types.Types.{Types}
 use Rattle.typed_tree.specs.declared.types.PasType.{PasType}
 use Rattle.typed_tree.specs.declared.types.PasType.TheVariants.{DynString}
 use Rattle.typed_tree.specs.declared.declarations.Owner.TheVariants.{Program, UnitPart, Routine}
 use Rattle.typed_tree.specs.declared.declarations.VarDecl.{VarDecl}
+use Rattle.typed_tree.specs.declared.declarations.FormalKind.{FormalKind, Value as ValueKind, Variable as VariableKind}
 use Rattle.typed_tree.specs.declared.declarations.FormalSection.{FormalSection}
 use Rattle.typed_tree.specs.Ranges.{type_at}
 use Rattle.meanings.specs.Errors.{error_number}
 use Rattle.meanings.specs.Values.{Tree, Undefined, ArrayOf, tree, RoutineValue, Variable}
 use Rattle.meanings.specs.Worlds.{Slot, Holds, Refers, Calls, Activation, World, View}
-use Rattle.meanings.specs.Outcomes.{Cause, Error, Escape, Exit, Goto, Leave, Raise, Halt, ReadUndefined, Cut, Outcome, Normal, Exits}
-use Rattle.meanings.specs.Programs.{Passed, ByValue, ByReference, ByRoutine, Run, Level, Outline, Setting, Prog, ◌>>=◌, ◌>>◌, pure, ask, enter, record_entry, handle, at_activation}
+use Rattle.meanings.specs.Outcomes.{Cause, Error, Escape, Exit, Goto, Leave, Raise, Halt, ReadUndefined, Malformed, Cut, Outcome, Normal, Exits, Checked, Passes, Lacks, Misfits, ◌&>◌, expect}
+use Rattle.meanings.specs.Programs.{Passed, ByValue, ByReference, ByRoutine, Run, Level, Outline, Setting, Prog, ◌>>=◌, ◌>>◌, pure, ask, check, enter, record_entry, handle, at_activation}
 use Rattle.meanings.specs.Memory.{base_tree, tree_at, kept, solid, solid_at}
-use Rattle.meanings.specs.Fresh.{new_variables}
+use Rattle.meanings.specs.Fresh.{new_variables, have_types}
 
 pub record RoutineCode : Type 0 where
   pub number : ℕ
@@ -53,38 +54,66 @@ unfoldable pub bound_names : List ℕ → List Passed → List (ℕ × Slot)
 bound_names (d ∷ ds) (a ∷ as') = (d, slot_of a) ∷ bound_names ds as'
 bound_names _ _ = []
 
-unfoldable pub result_names : Types → Option VarDecl → List (ℕ × Slot)
-result_names types None = []
-result_names types (Some v) = new_variables types (v ∷ [])
+unfoldable pub result_variable : Option VarDecl → List VarDecl
+result_variable None = []
+result_variable (Some v) = v ∷ []
+
+-- the variables that are made with an activation
+unfoldable pub own_variables : RoutineCode → List VarDecl
+own_variables r = result_variable r.result ++ r.locals
+
+unfoldable pub is_of_kind : FormalKind → Passed → Bool
+is_of_kind (ValueKind type) (ByValue t) = true
+is_of_kind (VariableKind type) (ByReference r) = true
+is_of_kind (ValueKind type) _ = false
+is_of_kind (VariableKind type) _ = false
+is_of_kind procedural (ByRoutine c) = true
+is_of_kind procedural _ = false
+
+-- the arguments begin with those of a section
+unfoldable pub after_section : FormalKind → List ℕ → List Passed → Checked (List Passed)
+after_section kind [] args = Passes args
+after_section kind (d ∷ ds) [] = Misfits
+after_section kind (d ∷ ds) (a ∷ as') = expect (is_of_kind kind a) &> λ u. after_section kind ds as'
+
+-- an argument of its kind stands for each parameter
+unfoldable pub fit_formals : List FormalSection → List Passed → Checked (Unit {0})
+fit_formals [] [] = Passes tt
+fit_formals [] (a ∷ as') = Misfits
+fit_formals (f ∷ fs) args = after_section f.kind f.decls args &> λ rest. fit_formals fs rest
+
+-- the arguments fit, and the types are there
+unfoldable pub begins_well : Types → RoutineCode → List Passed → Checked (Unit {0})
+begins_well types r args = fit_formals r.formals args &> λ u. expect (have_types types (own_variables r))
 
 unfoldable pub new_activation : Types → RoutineCode → RoutineValue → List Passed → ℕ → Activation
 new_activation types r c args n = record {
   number = n;
   owner = Routine r.number;
   parent = c.parent;
-  names = bound_names (formal_names r.formals) args ++ (result_names types r.result ++ new_variables types r.locals);
+  names = bound_names (formal_names r.formals) args ++ new_variables types (own_variables r);
 }
 
 -- an argument is not there where it is a pointer to a heap variable that is gone, or a reference into one
-unfoldable pub stands : View → Passed → Option (Unit {0})
+unfoldable pub stands : View → Passed → Checked (Unit {0})
 stands v (ByValue t) = kept (solid v t) tt
 stands v (ByReference r) = kept (base_tree v r.base) tt
-stands v (ByRoutine c) = Some tt
+stands v (ByRoutine c) = Passes tt
 
-unfoldable pub all_stand : List Passed → View → Option (Unit {0})
-all_stand [] v = Some tt
-all_stand (a ∷ as') v = elim (stands v a) [ Some u ↦ all_stand as' v | None ↦ None ]
+unfoldable pub all_stand : List Passed → View → Checked (Unit {0})
+all_stand [] v = Passes tt
+all_stand (a ∷ as') v = stands v a &> λ u. all_stand as' v
 
 unfoldable pub own_leave : Setting → Exit → Option (Unit {0})
 own_leave s (Leave a) = elim (nat_eq a s.here) [ true ↦ Some tt | false ↦ None ]
 own_leave s _ = None
 
 -- a dynamic string's cell 0 is read, and the rest copied
-unfoldable pub result_read : View → Option PasType → Option Tree → Option Tree
-result_read v (Some (DynString limit)) (Some (ArrayOf (tree Undefined ts))) = None
+unfoldable pub result_read : View → Option PasType → Checked Tree → Checked Tree
+result_read v (Some (DynString limit)) (Passes (ArrayOf (tree Undefined ts))) = Lacks
 result_read v _ t = solid_at v t
 
-unfoldable pub result_in : VarDecl → Setting → View → Option Tree
+unfoldable pub result_in : VarDecl → Setting → View → Checked Tree
 result_in r s v = result_read v (type_at s.program.types r.of) (tree_at v (record { base = Variable s.here r.decl; path = [] }))
 
 -- a function's result; a procedure has none
@@ -94,12 +123,12 @@ result_of (Some r) = ask (result_in r)
 
 -- the arguments are read again before the routine is entered
 unfoldable pub activation : RoutineCode → RoutineValue → List Passed → Prog Tree
-activation r c args = ask (λ s v. all_stand args v)
-    >> (ask (λ s v. Some s.program.types) >>= λ types. enter (new_activation types r c args))
+activation r c args = check (λ types. begins_well types r args) >> ask (λ s v. all_stand args v)
+    >> (ask (λ s v. Passes s.program.types) >>= λ types. enter (new_activation types r c args))
     >> record_entry r.number >> handle own_leave r.run >> result_of r.result
 
 unfoldable pub activate : Outline → Level → Option RoutineCode → Run
-activate p l None c args w = Exits ReadUndefined w
+activate p l None c args w = Exits Malformed w
 activate p l (Some r) c args w = activation r c args (record { program = p; here = w.next }) l w
 
 unfoldable pub extend : Code → Level → Level
@@ -143,8 +172,12 @@ unfoldable pub initial_parts : ℕ → List BlockCode → Prog (Unit {0})
 initial_parts a [] = pure tt
 initial_parts a (u ∷ us) = at_activation a (handle own_leave u.run) >> initial_parts (suc a) us
 
+unfoldable pub each_has_types : Types → List BlockCode → Bool
+each_has_types types [] = true
+each_has_types types (b ∷ bs) = have_types types b.locals && each_has_types types bs
+
 unfoldable pub whole_program : Code → Prog (Unit {0})
-whole_program p = initial_parts 1 p.units >> p.main.run
+whole_program p = check (λ types. expect (each_has_types types (p.main ∷ p.units))) >> initial_parts 1 p.units >> p.main.run
 
 -- ---- answers
 
@@ -153,6 +186,8 @@ pub data Answer : Type 0 where
   End : (output : List ℕ) (status : ℕ) (entries : List ℕ) → Answer
   -- something undefined or disposed was read
   UndefinedAfter : (output entries : List ℕ) → Answer
+  -- something was come to that stands in no tree that an elaboration makes
+  MalformedAfter : (output entries : List ℕ) → Answer
   -- the bound does not reach the end
   CutAfter : (output entries : List ℕ) → Answer
 
@@ -166,6 +201,7 @@ exit_answer (Leave a) w = End w.output 0 w.entries
 exit_answer (Raise c) w = End w.output (cause_status c) w.entries
 exit_answer (Halt n) w = End w.output n w.entries
 exit_answer ReadUndefined w = UndefinedAfter w.output w.entries
+exit_answer Malformed w = MalformedAfter w.output w.entries
 exit_answer Cut w = CutAfter w.output w.entries
 
 unfoldable pub answer_of : Outcome (Unit {0}) → Answer

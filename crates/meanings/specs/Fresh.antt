@@ -1,5 +1,5 @@
 -- New variables, whose scalars are undefined.
-use Rattle.std.specs.Prelude.{ℕ, zero, suc, ◌+◌, ℤ, ◌-ℤ◌, unsigned_abs, List, [], ◌∷◌, Option, Some, None}
+use Rattle.std.specs.Prelude.{ℕ, zero, suc, ◌+◌, ℤ, ◌-ℤ◌, unsigned_abs, Bool, true, false, ◌&&◌, List, [], ◌∷◌, Option, Some, None}
 use Rattle.typed_tree.specs.declared.types.Types.{Types}
 use Rattle.typed_tree.specs.declared.types.PasType.TheVariants as type
 use Rattle.typed_tree.specs.declared.declarations.VarDecl.{VarDecl}
@@ -38,3 +38,25 @@ fresh types t = fresh_to (suc t) types t
 unfoldable pub new_variables : Types → List VarDecl → List (ℕ × Slot)
 new_variables types [] = []
 new_variables types (v ∷ vs) = (v.decl, Holds (fresh types v.of)) ∷ new_variables types vs
+
+-- ---- whether the types are there
+
+unfoldable pub each_is : (ℕ → Bool) → List VarDecl → Bool
+each_is test [] = true
+each_is test (v ∷ vs) = test v.of && each_is test vs
+
+unfoldable pub is_type_to : ℕ → Types → ℕ → Bool
+is_type_to zero types t = false
+is_type_to (suc n) types t = elim (type_at types t) [
+  | Some (type.Array packed index component) ↦ is_type_to n types component
+  | Some (type.RecordOf packed fields variants) ↦ each_is (is_type_to n types) (record_fields (type_at types t))
+  | Some other ↦ true
+  | None ↦ false
+]
+
+-- whether a type is there, with those of its components
+unfoldable pub is_type : Types → ℕ → Bool
+is_type types t = is_type_to (suc t) types t
+
+unfoldable pub have_types : Types → List VarDecl → Bool
+have_types types vs = each_is (is_type types) vs

@@ -14,7 +14,7 @@ pub record Judgement : Type 1 where
   pub of_pure : {X : Type 0} (x : X) → Holds (pure x)
   pub of_stop : {X : Type 0} (e : Exit) → Holds (stop {X = X} e)
   pub of_choose : {X : Type 0} (b : Bool) {p q : Prog X} → Holds p → Holds q → Holds (choose b p q)
-  pub of_ask : {X : Type 0} (f : Setting → View → Option X) → Holds (ask f)
+  pub of_ask : {X : Type 0} (f : Setting → View → Checked X) → Holds (ask f)
   pub of_check : {X : Type 0} (f : Types → Checked X) → Holds (check f)
   pub of_change : (v : View) → Holds (change v)
   pub of_print : (bytes : List ℕ) → Holds (print bytes)

@@ -2,6 +2,7 @@
 use Rattle.std.specs.Prelude.{ℕ, zero, suc, true, false, nat_eq, List, [], ◌∷◌, ◌++◌, Option, Some, None, slice_get, slice_set}
 use Rattle.meanings.specs.Values.{Tree, Undefined, HeapNumber, ArrayOf, RecordOf, Trees, no_trees, tree, Fields, no_fields, field, Base, Variable, Heap, Step, AtIndex, AtField, Reference}
 use Rattle.meanings.specs.Worlds.{Slot, Holds, Refers, Activation, View}
+use Rattle.meanings.specs.Outcomes.{Checked, Passes, Lacks, Misfits, ◌&>◌, there}
 use Rattle.meanings.specs.Names.{named, activation_at, with_slot}
 
 -- ---- inside a tree
@@ -44,28 +45,27 @@ with_subtree (s ∷ ss) t u = elim (child t s) [ Some c ↦ with_child t s (with
 
 -- ---- in a world
 
-unfoldable pub held : Option Slot → Option Tree
-held (Some (Holds t)) = Some t
-held _ = None
+unfoldable pub held : Option Slot → Checked Tree
+held (Some (Holds t)) = Passes t
+held _ = Misfits
 
 unfoldable pub names_of : Option Activation → List (ℕ × Slot)
 names_of (Some e) = e.names
 names_of None = []
 
-unfoldable pub not_gone : Option (Option Tree) → Option Tree
-not_gone (Some (Some t)) = Some t
-not_gone _ = None
+unfoldable pub not_gone : Option (Option Tree) → Checked Tree
+not_gone (Some (Some t)) = Passes t
+not_gone _ = Lacks
 
--- the variable of a base, or None where it is gone
-unfoldable pub base_tree : View → Base → Option Tree
+-- the variable of a base, which lacks where it is gone
+unfoldable pub base_tree : View → Base → Checked Tree
 base_tree v (Variable a d) = held (named (names_of (activation_at v.activations a)) d)
 base_tree v (Heap h) = not_gone (slice_get v.heap h)
 
-unfoldable pub within : List Step → Option Tree → Option Tree
-within path None = None
-within path (Some t) = subtree path t
+unfoldable pub within : List Step → Checked Tree → Checked Tree
+within path c = c &> λ t. there (subtree path t)
 
-unfoldable pub tree_at : View → Reference → Option Tree
+unfoldable pub tree_at : View → Reference → Checked Tree
 tree_at v r = within r.path (base_tree v r.base)
 
 -- a variable of the base, with another tree
@@ -73,30 +73,28 @@ unfoldable pub with_base : View → Base → Tree → View
 with_base v (Variable a d) t = record v { activations = with_slot v.activations a d (Holds t) }
 with_base v (Heap h) t = record v { heap = slice_set v.heap h (Some t) }
 
--- a store, where the variable is there
-unfoldable pub stored : View → Reference → Tree → Option View
-stored v r t = elim (base_tree v r.base) [ Some old ↦ Some (with_base v r.base (with_subtree r.path old t)) | None ↦ None ]
+-- a store, where the place is there
+unfoldable pub stored : View → Reference → Tree → Checked View
+stored v r t = base_tree v r.base &> λ old. there (subtree r.path old) &> λ u. Passes (with_base v r.base (with_subtree r.path old t))
 
-unfoldable pub kept : {X : Type 0} → Option Tree → X → Option X
-kept None x = None
-kept (Some t) x = Some x
+unfoldable pub kept : {X : Type 0} → Checked Tree → X → Checked X
+kept c x = c &> λ t. Passes x
 
--- a tree as it is read: an undefined scalar and a pointer to a variable that is gone are not there; arrays and records are copied
-unfoldable pub solid : View → Tree → Option Tree
-solid v Undefined = None
+-- a tree as it is read: an undefined scalar and a pointer to a variable that is gone lack; arrays and records are copied
+unfoldable pub solid : View → Tree → Checked Tree
+solid v Undefined = Lacks
 solid v (HeapNumber h) = kept (base_tree v (Heap h)) (HeapNumber h)
-solid v t = Some t
+solid v t = Passes t
 
-unfoldable pub solid_at : View → Option Tree → Option Tree
-solid_at v None = None
-solid_at v (Some t) = solid v t
+unfoldable pub solid_at : View → Checked Tree → Checked Tree
+solid_at v c = c &> λ t. solid v t
 
 -- ---- places
 
-unfoldable pub slot_place : ℕ → Option (ℕ × Slot) → Option Reference
-slot_place d (Some (a, Holds t)) = Some (record { base = Variable a d; path = [] })
-slot_place d (Some (a, Refers r)) = Some r
-slot_place d _ = None
+unfoldable pub slot_place : ℕ → Option (ℕ × Slot) → Checked Reference
+slot_place d (Some (a, Holds t)) = Passes (record { base = Variable a d; path = [] })
+slot_place d (Some (a, Refers r)) = Passes r
+slot_place d _ = Misfits
 
 unfoldable pub longer : Reference → Step → Reference
 longer r s = record { base = r.base; path = r.path ++ (s ∷ []) }

@@ -7,7 +7,7 @@ use Rattle.typed_tree.specs.declared.types.Types.{Types}
 use Rattle.typed_tree.specs.declared.declarations.Owner.{Owner}
 use Rattle.meanings.specs.Values.{Tree, Reference, RoutineValue}
 use Rattle.meanings.specs.Worlds.{Activation, World, View, view, changed}
-use Rattle.meanings.specs.Outcomes.{Exit, Goto, Leave, Raise, Halt, ReadUndefined, Cut, Outcome, Normal, Exits, and_then, Checked, Passes, checked}
+use Rattle.meanings.specs.Outcomes.{Exit, Goto, Leave, Raise, Halt, ReadUndefined, Malformed, Cut, Outcome, Normal, Exits, and_then, Checked, Passes, checked}
 
 -- an argument with which an activation begins
 pub data Passed : Type 0 where
@@ -60,13 +60,9 @@ unfoldable pub choose : {X : Type 0} → Bool → Prog X → Prog X → Prog X
 choose true p q = p
 choose false p q = q
 
-abbrev pub supplied : {X : Type 0} → Option X → World → Outcome X
-supplied (Some x) w = Normal x w
-supplied None w = Exits ReadUndefined w
-
--- what is read; where it is not there, something undefined is read
-unfoldable pub ask : {X : Type 0} → (Setting → View → Option X) → Prog X
-ask f = λ s l w. supplied (f s (view w)) w
+-- what is read
+unfoldable pub ask : {X : Type 0} → (Setting → View → Checked X) → Prog X
+ask f = λ s l w. checked (f s (view w)) w
 
 -- what the types decide
 unfoldable pub check : {X : Type 0} → (Types → Checked X) → Prog X
@@ -89,7 +85,7 @@ abbrev pub caught : {X : Type 0} → Option X → Exit → World → Outcome X
 caught None e w = Exits e w
 caught (Some x) e w = Normal x w
 
--- an exit that the test catches ends here; an undefined read and a cut are never caught
+-- an exit that the test catches ends here; an undefined read, a malformed tree and a cut are never caught
 abbrev pub handled : {X : Type 0} → (Exit → Option X) → Outcome X → Outcome X
 handled test (Normal x w) = Normal x w
 handled test (Exits (Goto a l) w) = caught (test (Goto a l)) (Goto a l) w
@@ -97,6 +93,7 @@ handled test (Exits (Leave a) w) = caught (test (Leave a)) (Leave a) w
 handled test (Exits (Raise c) w) = caught (test (Raise c)) (Raise c) w
 handled test (Exits (Halt n) w) = caught (test (Halt n)) (Halt n) w
 handled test (Exits ReadUndefined w) = Exits ReadUndefined w
+handled test (Exits Malformed w) = Exits Malformed w
 handled test (Exits Cut w) = Exits Cut w
 
 unfoldable pub handle : {X : Type 0} → (Setting → Exit → Option X) → Prog X → Prog X
@@ -125,10 +122,10 @@ at_activation a p = λ s l w. p (record { program = s.program; here = a }) l w
 
 -- the running activation
 unfoldable pub here : Prog ℕ
-here = ask (λ s v. Some s.here)
+here = ask (λ s v. Passes s.here)
 
--- a change of what is seen, or an undefined read where there is nothing to change
-unfoldable pub update : (Types → View → Option View) → Prog (Unit {0})
+-- a change of what is seen
+unfoldable pub update : (Types → View → Checked View) → Prog (Unit {0})
 update f = ask (λ s v. f s.program.types v) >>= λ v. change v
 
 -- what the types say

@@ -10,7 +10,7 @@
 //! | `Values` | value trees, references, routine values |
 //! | `Worlds` | activations, heap, input left, output, entries, escape code; what a program sees of them |
 //! | `Errors` | the numbers of runtime errors |
-//! | `Outcomes` | normal, goto, leave, raise, halt, undefined read, cut; what a check gives |
+//! | `Outcomes` | normal, goto, leave, raise, halt, undefined read, malformed tree, cut; what a check gives |
 //! | `Programs` | the combinators |
 //! | `Names`, `Memory`, `Fresh` | activations and names; reading and storing in value trees; new variables |
 //! | `Code` | routines and blocks in some language, activations, levels, and the answer at a bound |

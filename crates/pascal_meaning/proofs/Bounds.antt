@@ -3,7 +3,7 @@ use Rattle.std.proofs.Common.{◌≡◌, ℕ, ◌≤◌, List, [], ◌∷◌, ma
 use Rattle.typed_tree.specs.declared.declarations.Routine.{Routine}
 use Rattle.typed_tree.specs.declared.declarations.Body.{Body}
 use Rattle.typed_tree.specs.declared.declarations.Typed.{Typed}
-use Rattle.meanings.specs.Code.{Answer, End, UndefinedAfter, CutAfter}
+use Rattle.meanings.specs.Code.{Answer, End, UndefinedAfter, MalformedAfter, CutAfter}
 use Rattle.meanings.specs.Bounds.{EachRoutine, NoRoutine, OneRoutine, EachBlock, NoBlock, OneBlock, SteadyCode, Keeps}
 use Rattle.meanings.proofs.Growth.{steady}
 use Rattle.meanings.proofs.SteadyCode.{bounds_agree}
@@ -32,6 +32,7 @@ keeps p input m n le = bounds_agree (code p) (steady_code p) input m n le
 of_final : (a b : Answer) → IsFinal a → Keeps a b → b ≡ a
 of_final (End o s k) b f h = h
 of_final (UndefinedAfter o k) b f h = h
+of_final (MalformedAfter o k) b f h = h
 of_final (CutAfter o k) b f h = absurd f
 
 pub final_stays : FinalStays

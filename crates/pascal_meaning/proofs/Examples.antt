@@ -4,6 +4,7 @@ pub mod Further
 pub mod Heap
 pub mod InputAndOutput
 pub mod Longer
+pub mod Malformed
 pub mod Ordinals
 pub mod Primitives
 pub mod Routines

@@ -12,12 +12,13 @@ use Rattle.typed_tree.specs.declared.declarations.Callee.{Callee}
 use Rattle.typed_tree.specs.declared.operations.UnaryOp.{UnaryOp}
 use Rattle.typed_tree.specs.declared.operations.PredefCall.{PredefCall}
 use Rattle.meanings.specs.Values.{Tree}
+use Rattle.meanings.specs.Outcomes.{Passes, ◌&>◌}
 use Rattle.meanings.specs.Programs.{Prog, ByReference, ◌>>=◌, pure, check, collect}
 use Rattle.pascal_meaning.specs.Sets.{empty_set}
 use Rattle.pascal_meaning.specs.Numbers.{number_of}
 use Rattle.pascal_meaning.specs.Places.{root_type, root_spot, refer}
 use Rattle.pascal_meaning.specs.Predefined.{Target, Shown, call_value}
-use Rattle.pascal_meaning.specs.Statements.{on_unary, Part, go_on, Element, Member, Members, with_elements, select_all, read_place, call_routine}
+use Rattle.pascal_meaning.specs.Statements.{on_unary, Part, go_on, Element, Member, Members, with_elements, select_all, read_place, call_function}
 use Rattle.pascal_meaning.specs.Meaning.{type_after, place_type, expr_type, parts_type, Value, Select, selected, selectors, parts, elements, argument, arguments, operand, operands}
 
 -- ---- rows
@@ -66,11 +67,11 @@ read_row p shape row h = ap (λ fs. read_place p.root (root_spot p.root >>= λ q
 pub value_read : (p : Place) → Value (X.Read p) ≡ read_place p.root (Select p)
 value_read p = read_row p _ _ (X.items_hidden-the_row-Selector-0 p.selectors)
 
-call_row : (c : Callee) (shape : List (Unit {0})) (row : Row_of-TypedArg _) (args : List TypedArg) (t : ℕ) → X.items-the_row-TypedArg _ row ≡ args → Value (X.Call' c shape row t) ≡ call_routine c (map argument args)
+call_row : (c : Callee) (shape : List (Unit {0})) (row : Row_of-TypedArg _) (args : List TypedArg) (t : ℕ) → X.items-the_row-TypedArg _ row ≡ args → Value (X.Call' c shape row t) ≡ call_function c (map argument args)
 unfolding Value
-call_row c shape row args t h = ap (call_routine c) (arguments_list row ∙ ap (map argument) h)
+call_row c shape row args t h = ap (call_function c) (arguments_list row ∙ ap (map argument) h)
 
-pub value_call : (c : Callee) (args : List TypedArg) (t : ℕ) → Value (X.Call c args t) ≡ call_routine c (map argument args)
+pub value_call : (c : Callee) (args : List TypedArg) (t : ℕ) → Value (X.Call c args t) ≡ call_function c (map argument args)
 value_call c args t = call_row c _ _ args t (X.items_hidden-the_row-TypedArg-1 args)
 
 predefined_row : (c : PredefCall) (shape : List (Unit {0})) (row : Row_of-TypedArg _) (args : List TypedArg) (t : ℕ) → X.items-the_row-TypedArg _ row ≡ args
@@ -129,7 +130,7 @@ pub operand_written : (e : TypedExpr) → operand (arg.Written e None) ≡ (Valu
 unfolding Value
 operand_written e = refl
 
-pub operand_wide : (e k : TypedExpr) → operand (arg.Written e (Some k)) ≡ (Value e >>= λ v. (Value k >>= λ z. pure (Some (number_of z))) >>= λ k. pure (Shown (expr_type e) v k))
+pub operand_wide : (e k : TypedExpr) → operand (arg.Written e (Some k)) ≡ (Value e >>= λ v. (Value k >>= λ z. check (λ types. number_of z &> λ n. Passes (Some n))) >>= λ k. pure (Shown (expr_type e) v k))
 unfolding Value
 operand_wide e k = refl
 

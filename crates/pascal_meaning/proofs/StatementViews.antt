@@ -7,9 +7,8 @@ use Rattle.typed_tree.specs.declared.statements.TypedArm.{TypedArm}
 use Rattle.typed_tree.specs.declared.statements.WithPart.{WithPart}
 use Rattle.typed_tree.specs.declared.types.LabelRange.{LabelRange}
 use Rattle.typed_tree.specs.declared.declarations.VarDecl.{VarDecl}
-use Rattle.meanings.specs.Programs.{Prog, ◌>>=◌, pure, choose}
-use Rattle.pascal_meaning.specs.Numbers.{holds}
-use Rattle.pascal_meaning.specs.Statements.{Item, sequence, while_loop, repeat_loop, for_loop, no_case, cases, with_all, try_recover}
+use Rattle.meanings.specs.Programs.{Prog, ◌>>=◌, pure}
+use Rattle.pascal_meaning.specs.Statements.{choose_by, Item, sequence, while_loop, repeat_loop, for_loop, no_case, cases, with_all, try_recover}
 use Rattle.pascal_meaning.specs.Meaning.{Value, Exec, items, arms, otherwise, with_part}
 
 -- ---- rows
@@ -60,14 +59,14 @@ pub exec_seq : (ss : List TypedStmt) → Exec (S.Seq ss) ≡ sequence (map item 
 exec_seq ss = seq_row _ _ ss (S.items_hidden-the_row-TypedStmt-0 ss)
 
 if_row : (e : TypedExpr) (row : Row_of-TypedStmt 1) (s : TypedStmt) (other : S.Held-TypedStmt-If-2) → S.items-the_row-TypedStmt 1 row ≡ s ∷ []
-    → Exec (S.If' e tt row other) ≡ (Value e >>= λ v. choose (holds v) (Exec s) (otherwise (pure tt) other))
+    → Exec (S.If' e tt row other) ≡ (Value e >>= λ v. choose_by v (Exec s) (otherwise (pure tt) other))
 unfolding Exec
-if_row e (S.more_of-TypedStmt x S.end_of-TypedStmt) s other h = let same : x ≡ s = cc in ap (λ s. Value e >>= λ v. choose (holds v) (Exec s) (otherwise (pure tt) other)) same
+if_row e (S.more_of-TypedStmt x S.end_of-TypedStmt) s other h = let same : x ≡ s = cc in ap (λ s. Value e >>= λ v. choose_by v (Exec s) (otherwise (pure tt) other)) same
 
-pub exec_if : (e : TypedExpr) (s : TypedStmt) (other : Option TypedStmt) → Exec (S.If e s other) ≡ (Value e >>= λ v. choose (holds v) (Exec s) (if_there (pure tt) other))
+pub exec_if : (e : TypedExpr) (s : TypedStmt) (other : Option TypedStmt) → Exec (S.If e s other) ≡ (Value e >>= λ v. choose_by v (Exec s) (if_there (pure tt) other))
 unfolding if_there
-exec_if e s None = if_row e _ s _ (S.items_hidden-the_row-TypedStmt-1 s) ∙ ap (λ p. Value e >>= λ v. choose (holds v) (Exec s) p) (none_is (pure tt))
-exec_if e s (Some t) = if_row e _ s _ (S.items_hidden-the_row-TypedStmt-1 s) ∙ ap (λ p. Value e >>= λ v. choose (holds v) (Exec s) p) (some_is (pure tt) _ t (S.items_hidden-the_row-TypedStmt-1 t))
+exec_if e s None = if_row e _ s _ (S.items_hidden-the_row-TypedStmt-1 s) ∙ ap (λ p. Value e >>= λ v. choose_by v (Exec s) p) (none_is (pure tt))
+exec_if e s (Some t) = if_row e _ s _ (S.items_hidden-the_row-TypedStmt-1 s) ∙ ap (λ p. Value e >>= λ v. choose_by v (Exec s) p) (some_is (pure tt) _ t (S.items_hidden-the_row-TypedStmt-1 t))
 
 case_row : (e : TypedExpr) (shape : List (Unit {0})) (row : S.Row_of-TypedArm _) (as' : List TypedArm) (other : S.Held-TypedStmt-If-2) → S.items-the_row-TypedArm _ row ≡ as'
     → Exec (S.Case' e shape row other) ≡ (Value e >>= λ v. cases (map arm as') (otherwise no_case other) v)

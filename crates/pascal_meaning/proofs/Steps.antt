@@ -23,7 +23,7 @@ use Rattle.pascal_meaning.specs.Predefined.{Operand, Given, Target, Shown, Named
 use Rattle.pascal_meaning.specs.declared.operations.Primitive.{Primitive}
 use Rattle.pascal_meaning.specs.declared.operations.Primitive.TheVariants as p
 use Rattle.pascal_meaning.specs.Primitives.{by_operator, by_call, no_answer, store_into, read_target, perform}
-use Rattle.pascal_meaning.specs.Statements.{read_again, apply_operator, Part, go_on, Element, Member, Members, with_element, with_elements, select_all, read_place, parent_of, resolve, call_routine, Item, run_all, run_from, Start, First, AtLabel, begin_at, sequence, goto, while_loop, repeat_loop, variable_spot, for_turns, for_loop, no_case, cases, bind_reference, with_all, recover_from, try_recover}
+use Rattle.pascal_meaning.specs.Statements.{choose_by, read_again, apply_operator, Part, go_on, Element, Member, Members, with_element, with_elements, select_all, read_place, parent_of, resolve, call_routine, call_function, Item, run_all, run_from, Start, First, AtLabel, begin_at, sequence, goto, while_loop, repeat_loop, variable_spot, for_turns, for_loop, no_case, case_with, cases, bind_reference, with_all, recover_from, try_recover}
 
 module _ (J : Judgement) where
   pub bind : {X Y : Type 0} {p : Prog X} {f : X → Prog Y} → J.Holds p → ((x : X) → J.Holds (f x)) → J.Holds (p >>= f)
@@ -41,7 +41,7 @@ module _ (J : Judgement) where
   pub of_choose : {X : Type 0} (b : Bool) {p q : Prog X} → J.Holds p → J.Holds q → J.Holds (choose b p q)
   of_choose = J.of_choose
 
-  pub of_ask : {X : Type 0} (f : Setting → View → Option X) → J.Holds (ask f)
+  pub of_ask : {X : Type 0} (f : Setting → View → Checked X) → J.Holds (ask f)
   of_ask = J.of_ask
 
   pub of_check : {X : Type 0} (f : Types → Checked X) → J.Holds (check f)
@@ -50,7 +50,7 @@ module _ (J : Judgement) where
   pub of_print : (bytes : List ℕ) → J.Holds (print bytes)
   of_print = J.of_print
 
-  pub of_update : (f : Types → View → Option View) → J.Holds (update f)
+  pub of_update : (f : Types → View → Checked View) → J.Holds (update f)
   unfolding update
   of_update f = J.of_bind (J.of_ask _) (λ v. J.of_change v)
 
@@ -183,15 +183,16 @@ module _ (J : Judgement) where
 
   pub of_call_value : (c : PredefCall) (xs : List Operand) (t : ℕ) → J.Holds (call_value c xs t)
   unfolding call_value
-  of_call_value call.Eof xs t = of_ask _
-  of_call_value call.Eoln xs t = search simple
-  of_call_value call.EscapeCode xs t = of_ask _
+  of_call_value call.Eof [] t = of_ask _
+  of_call_value call.Eoln [] t = search simple
+  of_call_value call.EscapeCode [] t = of_ask _
   of_call_value c xs t = of_check _
 
   of_halt : (xs : List Operand) → J.Holds (halt_with xs)
   unfolding halt_with
   of_halt [] = of_stop _
-  of_halt (x ∷ xs) = search simple
+  of_halt (x ∷ []) = search simple
+  of_halt _ = of_stop _
 
   of_escape : (xs : List Operand) → J.Holds (escape_with xs)
   unfolding escape_with
@@ -236,7 +237,7 @@ module _ (J : Judgement) where
   of_unpack (Given z v ∷ Target a ∷ i ∷ []) = search (simple, of_components)
   of_unpack _ = of_stop _
 
-  of_step : (p : Spot) (n : ℤ) → J.Holds (step_by p n)
+  of_step : (p : Spot) (n : Checked ℤ) → J.Holds (step_by p n)
   unfolding step_by
   of_step p n = search (simple, of_read_spot, of_assign)
 
@@ -317,12 +318,12 @@ module _ (J : Judgement) where
   of_acted call.Dispose xs = of_dispose xs
   of_acted call.Pack xs = of_pack xs
   of_acted call.Unpack xs = of_unpack xs
-  of_acted call.Get xs = of_get
-  of_acted call.Page xs = of_print _
+  of_acted call.Get [] = of_get
+  of_acted call.Page [] = of_print _
   of_acted call.Halt xs = of_halt xs
-  of_acted call.Exit xs = search simple
+  of_acted call.Exit [] = search simple
   of_acted call.ExitRoutine xs = of_leave_named xs
-  of_acted call.ExitProgram xs = of_leave _
+  of_acted call.ExitProgram [] = of_leave _
   of_acted call.Escape xs = of_escape xs
   of_acted call.Inc xs = of_increase xs
   of_acted call.Dec xs = of_decrease xs
@@ -344,6 +345,10 @@ module _ (J : Judgement) where
 
   -- ---- expressions
 
+  pub of_choose_by : {X : Type 0} (t : Tree) {p q : Prog X} → J.Holds p → J.Holds q → J.Holds (choose_by t p q)
+  unfolding choose_by
+  of_choose_by t h k = bind (of_check _) (λ b. of_choose b h k)
+
   of_read_again : (t : Tree) → J.Holds (read_again t)
   unfolding read_again
   of_read_again (HeapNumber h) = search simple
@@ -351,8 +356,8 @@ module _ (J : Judgement) where
 
   of_operator : (op : BinaryOp) (l : ℕ) (t : Tree) (r : ℕ) {p : Prog Tree} → J.Holds p → J.Holds (apply_operator op l t r p)
   unfolding apply_operator
-  of_operator binary.And l t r h = of_choose _ h (of_pure _)
-  of_operator binary.Or l t r h = of_choose _ (of_pure _) h
+  of_operator binary.And l t r h = of_choose_by t h (of_pure _)
+  of_operator binary.Or l t r h = of_choose_by t (of_pure _) h
   of_operator op l t r h = bind h (λ u. next (next (of_read_again t) (of_read_again u)) (of_check _))
 
   pub of_go_on : {ps : List Part} → EachPart ps → (l : ℕ) (t : Tree) → J.Holds (go_on ps l t)
@@ -394,6 +399,10 @@ module _ (J : Judgement) where
   unfolding call_routine
   of_call_routine c hs = bind (of_collect hs) (λ passed. bind (of_resolve c) (λ r. J.of_run r passed))
 
+  pub of_call_function : (c : Callee) {args : List (Prog Passed)} → Each args → J.Holds (call_function c args)
+  unfolding call_function
+  of_call_function c hs = bind (of_call_routine c hs) (λ t. of_check _)
+
   -- ---- statements
 
   of_run_all : {is : List Item} → EachItem is → J.Holds (run_all is)
@@ -421,11 +430,11 @@ module _ (J : Judgement) where
 
   pub of_while : {test : Prog Tree} {body : Prog (Unit {0})} → J.Holds test → J.Holds body → J.Holds (while_loop test body)
   unfolding while_loop
-  of_while h k = bind h (λ t. of_choose _ (J.of_below (J.of_turns (λ u. bind (next k h) (λ t. of_pure _)) tt)) (of_pure tt))
+  of_while h k = bind h (λ t. of_choose_by t (J.of_below (J.of_turns (λ u. bind (next k h) (λ t. of_check _)) tt)) (of_pure tt))
 
   pub of_repeat : {body : Prog (Unit {0})} {test : Prog Tree} → J.Holds body → J.Holds test → J.Holds (repeat_loop body test)
   unfolding repeat_loop
-  of_repeat h k = J.of_below (J.of_turns (λ u. bind (next h k) (λ t. of_pure _)) tt)
+  of_repeat h k = J.of_below (J.of_turns (λ u. bind (next h k) (λ t. of_check _)) tt)
 
   of_variable : (d t : ℕ) → J.Holds (variable_spot d t)
   unfolding variable_spot
@@ -437,16 +446,20 @@ module _ (J : Judgement) where
 
   pub of_for : (d t : ℕ) (down : Bool) {first last : Prog Tree} {body : Prog (Unit {0})} → J.Holds first → J.Holds last → J.Holds body → J.Holds (for_loop d t down first last body)
   unfolding for_loop
-  of_for d t down h k b = bind h (λ f. bind k (λ l. bind (of_variable d t) (λ p. next (of_choose _ (of_for_turns p down _ _ b) (of_pure tt)) (of_store p _))))
+  of_for d t down h k b = bind h (λ f. bind k (λ l. bind (of_check _) (λ r. bind (of_variable d t) (λ p. next (of_choose _ (of_for_turns p down _ _ b) (of_pure tt)) (of_store p _)))))
 
   pub of_no_case : J.Holds no_case
   unfolding no_case
   of_no_case = of_check _
 
+  of_case : {cs : List (List LabelRange × Prog (Unit {0}))} {rest : Prog (Unit {0})} → EachArm cs → J.Holds rest → (z : ℤ) → J.Holds (case_with cs rest z)
+  unfolding case_with
+  of_case EachArm.Empty h z = h
+  of_case (EachArm.And k ks) h z = of_choose _ k (of_case ks h z)
+
   pub of_cases : {cs : List (List LabelRange × Prog (Unit {0}))} {rest : Prog (Unit {0})} → EachArm cs → J.Holds rest → (t : Tree) → J.Holds (cases cs rest t)
   unfolding cases
-  of_cases EachArm.Empty h t = h
-  of_cases (EachArm.And k ks) h t = of_choose _ k (of_cases ks h t)
+  of_cases ks h t = bind (of_check _) (λ z. of_case ks h z)
 
   of_bind_reference : (d : ℕ) (r : Reference) → J.Holds (bind_reference d r)
   unfolding bind_reference
@@ -545,13 +558,13 @@ module _ (J : Judgement) where
   of_perform p.Page xs = of_no_answer (of_acted _ _)
   of_perform (p.Read target) xs = of_no_answer (of_read_target _ _)
   of_perform p.Readln xs = of_no_answer of_read_line
-  of_perform (p.Write t w) xs = of_no_answer (of_write_one _)
+  of_perform (p.Write t w) xs = of_no_answer (bind (of_check _) (λ x. of_write_one x))
   of_perform p.Writeln xs = of_no_answer (of_print _)
   of_perform (p.Inc target) (x ∷ xs) = of_no_answer (of_acted _ _)
   of_perform (p.Dec target) (x ∷ xs) = of_no_answer (of_acted _ _)
   of_perform (p.Insert text target) (x ∷ y ∷ i ∷ []) = of_no_answer (of_acted _ _)
   of_perform (p.Delete target) (x ∷ xs) = of_no_answer (of_acted _ _)
-  of_perform (p.NumberText number target w) xs = of_no_answer (of_acted _ _)
+  of_perform (p.NumberText number target w) xs = of_no_answer (bind (of_check _) (λ x. of_acted _ _))
   of_perform (p.Val text i code) (x ∷ y ∷ z ∷ []) = of_no_answer (of_acted _ _)
   of_perform (p.StrAppend target text) (x ∷ y ∷ []) = of_no_answer (of_acted _ _)
   of_perform (p.SetStrLen target) (x ∷ xs) = of_no_answer (of_acted _ _)

@@ -26,7 +26,7 @@ module _ (J : Judgement) where
     of_value (X.TextConst bs t) = s.of_pure J _
     of_value X.Nil = s.of_pure J _
     of_value (X.Read' r shape row) = s.of_read_place J r (s.bind J (s.of_root J r) (λ p. s.of_select_all J (of_selectors row) p))
-    of_value (X.Call' c shape row t) = s.of_call_routine J c (of_arguments row)
+    of_value (X.Call' c shape row t) = s.of_call_function J c (of_arguments row)
     of_value (X.Unary' op p (X.more_of-TypedExpr e X.end_of-TypedExpr) t) = s.bind J (of_value e) (λ v. s.of_check J _)
     of_value (X.Binary' p (X.more_of-TypedExpr e X.end_of-TypedExpr) shape row) = s.bind J (of_value e) (λ v. s.of_go_on J (of_parts row) _ v)
     of_value (X.SetOf' shape row t) = s.of_elements J (of_set_elements row) _
@@ -72,7 +72,7 @@ module _ (J : Judgement) where
 
     of_width : (k : Held-TypedArg-Written-1) → J.Holds (width k)
     of_width X.None' = s.of_pure J _
-    of_width (X.Some' e) = s.bind J (of_value e) (λ v. s.of_pure J _)
+    of_width (X.Some' e) = s.bind J (of_value e) (λ v. s.of_check J _)
 
   each_selected : (xs : List Selector) → EachSelector J (map selected xs)
   each_selected [] = EachSelector.Empty
@@ -105,7 +105,7 @@ module _ (J : Judgement) where
     of_exec (S.Predefined c args) = s.of_call_statement J c (each_operand args)
     of_exec (S.Goto l) = s.of_goto J l
     of_exec (S.Seq' shape row) = s.of_sequence J (of_items row)
-    of_exec (S.If' e p (S.more_of-TypedStmt body S.end_of-TypedStmt) other) = s.bind J (of_value e) (λ v. s.of_choose J _ (of_exec body) (of_otherwise (s.of_pure J tt) other))
+    of_exec (S.If' e p (S.more_of-TypedStmt body S.end_of-TypedStmt) other) = s.bind J (of_value e) (λ v. s.of_choose_by J v (of_exec body) (of_otherwise (s.of_pure J tt) other))
     of_exec (S.Case' e shape row rest) = s.bind J (of_value e) (λ v. s.of_cases J (of_arms row) (of_otherwise (s.of_no_case J) rest) v)
     of_exec (S.While' e p (S.more_of-TypedStmt body S.end_of-TypedStmt)) = s.of_while J (of_value e) (of_exec body)
     of_exec (S.Repeat' shape row e) = s.of_repeat J (s.of_sequence J (of_items row)) (of_value e)

@@ -20,7 +20,7 @@ abbrev pub Taken : Type 0 → Type 0
 Taken X = Checked X × List ℕ
 
 unfoldable pub take_by : {X : Type 0} → (Types → List ℕ → Taken X) → Prog X
-take_by f = ask (λ s v. Some (f s.program.types v.input)) >>= λ r. update (λ types v. Some (record v { input = r.1 })) >> check (λ types. r.0)
+take_by f = ask (λ s v. Passes (f s.program.types v.input)) >>= λ r. update (λ types v. Passes (record v { input = r.1 })) >> check (λ types. r.0)
 
 -- ---- characters
 

@@ -3,7 +3,7 @@ use Rattle.std.specs.Prelude.{◌≡◌, ℕ, ◌≤◌, List}
 use Rattle.typed_tree.specs.declared.declarations.Typed.{Typed}
 use Rattle.typed_tree.specs.declared.expressions.TypedExpr.{TypedExpr}
 use Rattle.typed_tree.specs.declared.statements.TypedStmt.{TypedStmt}
-use Rattle.meanings.specs.Code.{Answer, End, UndefinedAfter, CutAfter}
+use Rattle.meanings.specs.Code.{Answer, End, UndefinedAfter, MalformedAfter, CutAfter}
 use Rattle.meanings.specs.Bounds.{IsPrefix, output_of, entries_of}
 use Rattle.meanings.specs.Temporaries.{Same}
 use Rattle.pascal_meaning.specs.declared.operations.Primitive.{Primitive}
@@ -15,6 +15,7 @@ use Rattle.pascal_meaning.specs.Meaning.{Value, Exec, Pas}
 abbrev pub IsFinal : Answer → Type 0
 IsFinal (End output status entries) = Unit {0}
 IsFinal (UndefinedAfter output entries) = Unit {0}
+IsFinal (MalformedAfter output entries) = Unit {0}
 IsFinal (CutAfter output entries) = ⊥
 
 -- a final answer at a bound is the answer at each greater one

@@ -17,15 +17,15 @@ use Rattle.typed_tree.specs.declared.declarations.Body.{Body}
 use Rattle.typed_tree.specs.declared.declarations.Typed.{Typed}
 use Rattle.typed_tree.specs.Ranges.{type_at}
 use Rattle.meanings.specs.Values.{Tree, Whole, NilPointer, Reference}
-use Rattle.meanings.specs.Outcomes.{ReadUndefined}
-use Rattle.meanings.specs.Programs.{Passed, ByValue, ByReference, ByRoutine, Heading, Outline, Prog, ◌>>=◌, ◌>>◌, pure, stop, choose, check, collect}
+use Rattle.meanings.specs.Outcomes.{Malformed, Passes, ◌&>◌}
+use Rattle.meanings.specs.Programs.{Passed, ByValue, ByReference, ByRoutine, Heading, Outline, Prog, ◌>>=◌, ◌>>◌, pure, stop, check, collect}
 use Rattle.meanings.specs.Code.{RoutineCode, BlockCode, Code, Answer, answer}
-use Rattle.pascal_meaning.specs.Numbers.{number_of, holds}
+use Rattle.pascal_meaning.specs.Numbers.{number_of}
 use Rattle.pascal_meaning.specs.Sets.{empty_set}
 use Rattle.pascal_meaning.specs.Texts.{made}
 use Rattle.pascal_meaning.specs.Places.{Spot, root_type, root_spot, field_spot, index_spot, follow_spot, refer, converted, assigned, store}
 use Rattle.pascal_meaning.specs.Predefined.{Operand, Given, Target, Shown, Named, call_value, call_statement}
-use Rattle.pascal_meaning.specs.Statements.{on_unary, Part, go_on, Element, Member, Members, with_elements, select_all, read_place, resolve, call_routine, Item, sequence, goto, while_loop, repeat_loop, for_loop, no_case, cases, with_all, try_recover}
+use Rattle.pascal_meaning.specs.Statements.{on_unary, choose_by, Part, go_on, Element, Member, Members, with_elements, select_all, read_place, resolve, call_routine, call_function, Item, sequence, goto, while_loop, repeat_loop, for_loop, no_case, cases, with_all, try_recover}
 
 -- ---- types of expressions
 
@@ -63,7 +63,7 @@ unfoldable mutual
   Value (X.TextConst bs t) = pure (made bs)
   Value X.Nil = pure NilPointer
   Value (X.Read' r shape row) = read_place r (root_spot r >>= λ p. select_all (selectors row) p)
-  Value (X.Call' c shape row t) = call_routine c (arguments row)
+  Value (X.Call' c shape row t) = call_function c (arguments row)
   Value (X.Unary' op p (X.more_of-TypedExpr e X.end_of-TypedExpr) t) = Value e >>= λ v. check (λ types. on_unary op v)
   Value (X.Binary' p (X.more_of-TypedExpr e X.end_of-TypedExpr) shape row) = Value e >>= λ v. go_on (parts row) (expr_type e) v
   Value (X.SetOf' shape row t) = with_elements (elements row) empty_set
@@ -93,7 +93,7 @@ unfoldable mutual
   argument (arg.Value e t) = Value e >>= λ v. check (λ types. converted types t (type_at types (expr_type e)) v) >>= λ v. pure (ByValue v)
   argument (arg.Reference' r shape row) = (root_spot r >>= λ p. select_all (selectors row) p) >>= λ p. refer p >>= λ r. pure (ByReference r)
   argument (arg.RoutineValue c) = resolve c >>= λ r. pure (ByRoutine r)
-  argument (arg.Written' e k) = stop ReadUndefined
+  argument (arg.Written' e k) = stop Malformed
 
   pub arguments : {m : _} → Row_of-TypedArg m → List (Prog Passed)
   arguments X.end_of-TypedArg = []
@@ -112,7 +112,7 @@ unfoldable mutual
 
   pub width : Held-TypedArg-Written-1 → Prog (Option ℤ)
   width X.None' = pure None
-  width (X.Some' e) = Value e >>= λ v. pure (Some (number_of v))
+  width (X.Some' e) = Value e >>= λ v. check (λ types. number_of v &> λ z. Passes (Some z))
 
 -- the place that is selected
 unfoldable pub Select : Place → Prog Spot
@@ -132,7 +132,7 @@ unfoldable mutual
   Exec (S.Predefined c args) = call_statement c (map operand args)
   Exec (S.Goto l) = goto l
   Exec (S.Seq' shape row) = sequence (items row)
-  Exec (S.If' e p (S.more_of-TypedStmt body S.end_of-TypedStmt) other) = Value e >>= λ v. choose (holds v) (Exec body) (otherwise (pure tt) other)
+  Exec (S.If' e p (S.more_of-TypedStmt body S.end_of-TypedStmt) other) = Value e >>= λ v. choose_by v (Exec body) (otherwise (pure tt) other)
   Exec (S.Case' e shape row rest) = Value e >>= λ v. cases (arms row) (otherwise no_case rest) v
   Exec (S.While' e p (S.more_of-TypedStmt body S.end_of-TypedStmt)) = while_loop (Value e) (Exec body)
   Exec (S.Repeat' shape row e) = repeat_loop (sequence (items row)) (Value e)

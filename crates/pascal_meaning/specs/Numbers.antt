@@ -7,8 +7,8 @@ use Rattle.typed_tree.specs.declared.operations.BinaryOp.{BinaryOp}
 use Rattle.typed_tree.specs.declared.operations.BinaryOp.TheVariants.{Add, Sub, Mul, Div, Mod, BitAnd, BitOr, BitXor, Shl, Shr, Equal, Unequal, Less, Greater, LessEq, GreaterEq}
 use Rattle.meanings.specs.declared.errors.RuntimeError.{RuntimeError}
 use Rattle.meanings.specs.declared.errors.RuntimeError.TheVariants.{BadDivisor, OutOfRange, Overflow}
-use Rattle.meanings.specs.Values.{Tree, Whole}
-use Rattle.meanings.specs.Outcomes.{Checked, Passes, Fails, Lacks, ◌&>◌}
+use Rattle.meanings.specs.Values.{Tree, Undefined, Whole}
+use Rattle.meanings.specs.Outcomes.{Checked, Passes, Fails, Lacks, Misfits, ◌&>◌}
 
 -- ---- ranges
 
@@ -89,7 +89,7 @@ on_numbers d Less x y = Passes (of_bool (int_lt x y))
 on_numbers d Greater x y = Passes (of_bool (int_lt y x))
 on_numbers d LessEq x y = Passes (of_bool (int_le x y))
 on_numbers d GreaterEq x y = Passes (of_bool (int_le y x))
-on_numbers d _ x y = Lacks
+on_numbers d _ x y = Misfits
 
 -- ---- decimal
 
@@ -104,12 +104,17 @@ decimal (negsuc n) = 45 ∷ digits 20 (n + 1) []
 
 -- ---- values
 
-unfoldable pub number_of : Tree → ℤ
-number_of (Whole z) = z
-number_of _ = pos 0
+unfoldable pub number_of : Tree → Checked ℤ
+number_of (Whole z) = Passes z
+number_of Undefined = Lacks
+number_of _ = Misfits
 
-unfoldable pub holds : Tree → Bool
-holds t = not (equal (number_of t) (pos 0))
+unfoldable pub numbers_of : Tree → Tree → Checked (ℤ × ℤ)
+numbers_of t u = number_of t &> λ x. number_of u &> λ y. Passes (x, y)
+
+-- whether a truth value is true
+unfoldable pub holds : Tree → Checked Bool
+holds t = number_of t &> λ z. Passes (not (equal z (pos 0)))
 
 unfoldable pub whole : Checked ℤ → Checked Tree
 whole c = c &> λ z. Passes (Whole z)

@@ -6,9 +6,9 @@ use Rattle.typed_tree.specs.declared.types.Host.TheVariants.{Whole as WholeHost,
 use Rattle.typed_tree.specs.declared.types.PasType.{PasType}
 use Rattle.typed_tree.specs.declared.types.PasType.TheVariants.{Ordinal}
 use Rattle.meanings.specs.declared.errors.RuntimeError.TheVariants.{OutOfRange}
-use Rattle.meanings.specs.Values.{Tree, Whole}
+use Rattle.meanings.specs.Values.{Tree}
 use Rattle.meanings.specs.Outcomes.{Checked, Passes, ◌&>◌}
-use Rattle.pascal_meaning.specs.Numbers.{when, decimal, holds}
+use Rattle.pascal_meaning.specs.Numbers.{when, decimal, number_of, holds}
 use Rattle.pascal_meaning.specs.Texts.{Text, Plain, text_of, length_of, read_cells, cells_of, cells}
 
 -- a width, else `OutOfRange`; in Turbo every number is one
@@ -42,8 +42,8 @@ truth_text false = 70 ∷ 65 ∷ 76 ∷ 83 ∷ 69 ∷ []
 
 -- a whole number is never cut
 unfoldable pub shown : Dialect → Option PasType → Option ℤ → Tree → Checked (List ℕ)
-shown d (Some (Ordinal WholeHost first last)) k (Whole z) = Passes (padded k (decimal z))
-shown d (Some (Ordinal BoolHost first last)) k t = shown_text d k (Plain (cells (truth_text (holds t))))
+shown d (Some (Ordinal WholeHost first last)) k t = number_of t &> λ z. Passes (padded k (decimal z))
+shown d (Some (Ordinal BoolHost first last)) k t = holds t &> λ b. shown_text d k (Plain (cells (truth_text b)))
 shown d type k t = shown_text d k (text_of type t)
 
 -- what is written of a value of the type, with a width or none

@@ -4,7 +4,7 @@ use Rattle.p2c_text.specs.declared.dialect.Dialect.{Dialect}
 use Rattle.p2c_text.specs.declared.dialect.Dialect.TheVariants.{Turbo}
 use Rattle.typed_tree.specs.declared.types.Types.{Types}
 use Rattle.typed_tree.specs.declared.types.PasType.{PasType}
-use Rattle.typed_tree.specs.declared.types.PasType.TheVariants.{Ordinal, Array, DynString, SetOf as SetType}
+use Rattle.typed_tree.specs.declared.types.PasType.TheVariants.{Ordinal, Pointer, Array, DynString, RecordOf as RecordType, SetOf as SetType}
 use Rattle.typed_tree.specs.declared.types.LabelRange.{LabelRange}
 use Rattle.typed_tree.specs.declared.declarations.VarDecl.{VarDecl}
 use Rattle.typed_tree.specs.declared.expressions.Root.{Root}
@@ -12,15 +12,15 @@ use Rattle.typed_tree.specs.declared.expressions.Root.TheVariants as root
 use Rattle.typed_tree.specs.Ranges.{type_at, Range}
 use Rattle.typed_tree.specs.Fields.{Variant, Choice, variants_around, tag_choice}
 use Rattle.meanings.specs.declared.errors.RuntimeError.TheVariants.{NilUse, InactiveVariant}
-use Rattle.meanings.specs.Values.{Tree, Undefined, Whole, SetOf, NilPointer, HeapNumber, ArrayOf, Heap, AtIndex, AtField, Reference}
+use Rattle.meanings.specs.Values.{Tree, Undefined, Whole, SetOf, NilPointer, HeapNumber, ArrayOf, RecordOf, Heap, AtIndex, AtField, Reference}
 use Rattle.meanings.specs.Worlds.{View}
-use Rattle.meanings.specs.Outcomes.{ReadUndefined, Checked, Passes, Fails, Lacks, ◌&>◌}
+use Rattle.meanings.specs.Outcomes.{Malformed, Checked, Passes, Fails, Lacks, Misfits, ◌&>◌, expect}
 use Rattle.meanings.specs.Programs.{Setting, Prog, ◌>>=◌, ◌>>◌, pure, stop, choose, ask, check, update, of_types}
 use Rattle.meanings.specs.Names.{find_name}
 use Rattle.meanings.specs.Memory.{base_tree, tree_at, stored, kept, solid_at, slot_place, longer}
-use Rattle.meanings.specs.Fresh.{fresh}
+use Rattle.meanings.specs.Fresh.{fresh, is_type}
 use Rattle.pascal_meaning.specs.Numbers.{when, in_range, number_of}
-use Rattle.pascal_meaning.specs.Sets.{fits_base}
+use Rattle.pascal_meaning.specs.Sets.{set_of, fits_base}
 use Rattle.pascal_meaning.specs.Texts.{text_of, read_text, limited, made, filled}
 
 -- a variant around a place, in the record at this reference
@@ -49,8 +49,8 @@ unfoldable pub selection_from : ℕ → List Variant → ℤ → Option (ℕ × 
 selection_from n [] z = None
 selection_from n (v ∷ vs) z = elim (among v.labels z) [ true ↦ Some (n, v) | false ↦ selection_from (suc n) vs z ]
 
-unfoldable pub selection : List Variant → Option Tree → Option (ℕ × Variant)
-selection vs (Some (Whole z)) = selection_from 0 vs z
+unfoldable pub selection : List Variant → Checked Tree → Option (ℕ × Variant)
+selection vs (Passes (Whole z)) = selection_from 0 vs z
 selection vs _ = None
 
 unfoldable pub same_selection : Option (ℕ × Variant) → Option (ℕ × Variant) → Bool
@@ -66,32 +66,30 @@ unfoldable pub tag_of : Reference → Choice → Reference
 tag_of r part = longer r (AtField part.tag)
 
 -- these fields of a record, undefined
-unfoldable pub cleared : Types → Reference → List VarDecl → View → Option View
-cleared types r [] v = Some v
-cleared types r (f ∷ fs) v = elim (stored v (longer r (AtField f.decl)) (fresh types f.of)) [ Some v ↦ cleared types r fs v | None ↦ None ]
+unfoldable pub cleared : Types → Reference → List VarDecl → View → Checked View
+cleared types r [] v = Passes v
+cleared types r (f ∷ fs) v = expect (is_type types f.of) &> λ u. stored v (longer r (AtField f.decl)) (fresh types f.of) &> λ v. cleared types r fs v
 
 unfoldable pub changed_fields : Option (ℕ × Variant) → Option (ℕ × Variant) → List VarDecl
 changed_fields old new = elim (same_selection old new) [ true ↦ [] | false ↦ selected_fields old ++ selected_fields new ]
 
 -- another value for a tag: where it selects another variant, the fields of both become undefined
-unfoldable pub retagged : Types → Reference → Choice → ℤ → View → Option View
-retagged types r part z v = elim (cleared types r (changed_fields (selection part.variants (tree_at v (tag_of r part))) (selection part.variants (Some (Whole z)))) v) [
-  | Some v ↦ stored v (tag_of r part) (Whole z)
-  | None ↦ None
-]
+unfoldable pub retagged : Types → Reference → Choice → ℤ → View → Checked View
+retagged types r part z v = cleared types r (changed_fields (selection part.variants (tree_at v (tag_of r part))) (selection part.variants (Passes (Whole z)))) v
+    &> λ v. stored v (tag_of r part) (Whole z)
 
 unfoldable pub first_label : List LabelRange → ℤ
 first_label [] = pos 0
 first_label (r ∷ rs) = r.first
 
 -- the variants with hidden tags, selected
-unfoldable pub settled : Types → List Guard → View → Option View
-settled types [] v = Some v
-settled types (g ∷ gs) v = elim (retagged types g.around g.part (first_label g.variant.labels) v) [ Some v ↦ settled types gs v | None ↦ None ]
+unfoldable pub settled : Types → List Guard → View → Checked View
+settled types [] v = Passes v
+settled types (g ∷ gs) v = retagged types g.around g.part (first_label g.variant.labels) v &> λ v. settled types gs v
 
 -- a tag is read, and has to select the variant
 unfoldable pub confirm : Guard → Prog (Unit {0})
-confirm g = ask (λ s v. solid_at v (tree_at v (tag_of g.around g.part))) >>= λ t. check (λ types. when (among g.variant.labels (number_of t)) InactiveVariant tt)
+confirm g = ask (λ s v. solid_at v (tree_at v (tag_of g.around g.part))) >>= λ t. check (λ types. number_of t &> λ z. when (among g.variant.labels z) InactiveVariant tt)
 
 unfoldable pub confirm_all : List Guard → Prog (Unit {0})
 confirm_all [] = pure tt
@@ -99,18 +97,17 @@ confirm_all (g ∷ gs) = confirm g >> confirm_all gs
 
 -- ---- selecting
 
-unfoldable pub not_into_gone : View → Option Reference → Option Reference
-not_into_gone v None = None
-not_into_gone v (Some r) = kept (base_tree v r.base) r
+unfoldable pub not_into_gone : View → Checked Reference → Checked Reference
+not_into_gone v c = c &> λ r. kept (base_tree v r.base) r
 
-unfoldable pub place_named : ℕ → Setting → View → Option Reference
+unfoldable pub place_named : ℕ → Setting → View → Checked Reference
 place_named d s v = not_into_gone v (slot_place d (find_name v.activations s.here d))
 
-unfoldable pub root_in : Root → Setting → View → Option Reference
+unfoldable pub root_in : Root → Setting → View → Checked Reference
 root_in (root.Variable d t) s v = place_named d s v
 root_in (root.WithRef d t) s v = place_named d s v
 root_in (root.Outcome d t) s v = place_named d s v
-root_in root.Input s v = None
+root_in root.Input s v = Misfits
 
 unfoldable pub root_type : Root → ℕ
 root_type (root.Variable d t) = t
@@ -166,20 +163,28 @@ origin _ = pos 0
 -- the bounds of an index; up to the length, cell 0 is read
 unfoldable pub bounds_of : Reach → Spot → Prog (ℤ × ℤ)
 bounds_of (InRange r) p = pure r
-bounds_of ToLength p = confirm_all p.guards >> ask (λ s v. solid_at v (tree_at v (longer p.at (AtIndex 0)))) >>= λ c. pure (pos 1, number_of c)
-bounds_of NoIndex p = stop ReadUndefined
+bounds_of ToLength p = confirm_all p.guards >> ask (λ s v. solid_at v (tree_at v (longer p.at (AtIndex 0)))) >>= λ c. check (λ types. number_of c &> λ n. Passes (pos 1, n))
+bounds_of NoIndex p = stop Malformed
 
 unfoldable pub component : Spot → ℕ → ℕ → Spot
 component p t i = record { at = longer p.at (AtIndex i); of = t; guards = p.guards; tag = None }
 
 unfoldable pub index_spot : ℕ → ℕ → Spot → Tree → Prog Spot
 index_spot array t p index = of_types (λ types. reach_of types (type_at types array)) >>= λ reach. bounds_of reach p >>= λ r.
-    check (λ types. in_range (Some r) (number_of index)) >>= λ z. pure (component p t (unsigned_abs (z -ℤ origin reach)))
+    check (λ types. number_of index &> λ z. in_range (Some r) z) >>= λ z. pure (component p t (unsigned_abs (z -ℤ origin reach)))
+
+-- a pointer, followed or not
+unfoldable pub pointer_of : Tree → Checked Tree
+pointer_of NilPointer = Passes NilPointer
+pointer_of (HeapNumber h) = Passes (HeapNumber h)
+pointer_of Undefined = Lacks
+pointer_of _ = Misfits
 
 unfoldable pub pointed : Tree → Checked ℕ
 pointed NilPointer = Fails NilUse
 pointed (HeapNumber h) = Passes h
-pointed _ = Lacks
+pointed Undefined = Lacks
+pointed _ = Misfits
 
 -- ---- what a place is for
 
@@ -194,26 +199,22 @@ follow_spot t p = read_spot p >>= λ v. check (λ types. pointed v) >>= λ h. pu
 unfoldable pub refer : Spot → Prog Reference
 refer p = update (λ types v. settled types p.guards v) >> pure p.at
 
-unfoldable pub or_undefined : Option Tree → Tree
-or_undefined None = Undefined
-or_undefined (Some t) = t
-
-unfoldable pub put_tree : Option PasType → Reference → Tree → View → Option View
-put_tree (Some (DynString limit)) r (ArrayOf ts) v = stored v r (filled ts (or_undefined (tree_at v r)))
+unfoldable pub put_tree : Option PasType → Reference → Tree → View → Checked View
+put_tree (Some (DynString limit)) r (ArrayOf ts) v = tree_at v r &> λ old. filled ts old &> λ new. stored v r new
 put_tree type r t v = stored v r t
 
-unfoldable pub put : Types → Spot → Tree → View → Option View
-put types p t v = elim p.tag [ Some tag ↦ retagged types tag.0 tag.1 (number_of t) v | None ↦ put_tree (type_at types p.of) p.at t v ]
+unfoldable pub put : Types → Spot → Tree → View → Checked View
+put types p t v = elim p.tag [ Some tag ↦ number_of t &> λ z. retagged types tag.0 tag.1 z v | None ↦ put_tree (type_at types p.of) p.at t v ]
 
-unfoldable pub put_settled : Types → Spot → Tree → View → Option View
-put_settled types p t v = elim (settled types p.guards v) [ Some v ↦ put types p t v | None ↦ None ]
+unfoldable pub put_settled : Types → Spot → Tree → View → Checked View
+put_settled types p t v = settled types p.guards v &> λ v. put types p t v
 
 -- a value of the place's type is stored; a text goes into a dynamic string
 unfoldable pub store : Spot → Tree → Prog (Unit {0})
 store p t = update (λ types v. put_settled types p t v)
 
-unfoldable pub copy_settled : Types → Spot → Tree → View → Option View
-copy_settled types p t v = elim (settled types p.guards v) [ Some v ↦ stored v p.at t | None ↦ None ]
+unfoldable pub copy_settled : Types → Spot → Tree → View → Checked View
+copy_settled types p t v = settled types p.guards v &> λ v. stored v p.at t
 
 -- a copy, as of a component
 unfoldable pub store_copy : Spot → Tree → Prog (Unit {0})
@@ -227,22 +228,25 @@ base_range types (Some t) = Range types t
 
 -- a value of the second type for a target of the first: checked, and a text for a dynamic string is read
 unfoldable pub fitted : Types → Option PasType → Option PasType → Tree → Checked Tree
-fitted types (Some (Ordinal host first last)) source (Whole z) = in_range (Some (first, last)) z &> λ z. Passes (Whole z)
-fitted types (Some (SetType packing base)) source (SetOf ms) = fits_base (base_range types base) ms &> λ ms. Passes (SetOf ms)
+fitted types (Some (Ordinal host first last)) source t = number_of t &> λ z. in_range (Some (first, last)) z &> λ z. Passes (Whole z)
+fitted types (Some (SetType packing base)) source t = set_of t &> λ ms. fits_base (base_range types base) ms &> λ ms. Passes (SetOf ms)
 fitted types (Some (DynString limit)) source t = read_text (text_of source t) &> λ bs. limited types.dialect limit bs &> λ bs. Passes (made bs)
-fitted types target source t = Passes t
+fitted types (Some (Pointer domain)) source t = pointer_of t
+fitted types (Some (Array packed index component)) source (ArrayOf ts) = Passes (ArrayOf ts)
+fitted types (Some (RecordType packed fields variants)) source (RecordOf fs) = Passes (RecordOf fs)
+fitted types target source t = Misfits
 
 unfoldable pub assigned : Types → (target : ℕ) → (source : Option PasType) → Tree → Checked Tree
 assigned types target source t = fitted types (type_at types target) source t
 
 -- a new variable with this value
-unfoldable pub as_new : Option PasType → Tree → Tree → Tree
+unfoldable pub as_new : Option PasType → Tree → Tree → Checked Tree
 as_new (Some (DynString limit)) (ArrayOf ts) new = filled ts new
-as_new type t new = t
+as_new type t new = Passes t
 
 -- the value of a parameter
 unfoldable pub converted : Types → (target : ℕ) → (source : Option PasType) → Tree → Checked Tree
-converted types target source t = assigned types target source t &> λ t. Passes (as_new (type_at types target) t (fresh types target))
+converted types target source t = assigned types target source t &> λ t. as_new (type_at types target) t (fresh types target)
 
 -- a value is checked, converted and stored
 unfoldable pub assign : Spot → (source : Option PasType) → Tree → Prog (Unit {0})

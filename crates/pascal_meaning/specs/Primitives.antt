@@ -1,5 +1,5 @@
 -- What each primitive does with its operands, in their order.
-use Rattle.std.specs.Prelude.{ℕ, ℤ, pos, Bool, true, List, [], ◌∷◌, Option, Some, None}
+use Rattle.std.specs.Prelude.{ℕ, ℤ, pos, Bool, true, false, List, [], ◌∷◌, Option, Some, None}
 use Rattle.typed_tree.specs.declared.types.Types.{Types}
 use Rattle.typed_tree.specs.declared.operations.BinaryOp.{BinaryOp}
 use Rattle.typed_tree.specs.declared.operations.BinaryOp.TheVariants as op
@@ -10,12 +10,12 @@ use Rattle.typed_tree.specs.Ranges.{type_at}
 use Rattle.typed_tree.specs.Fields.{Variant, Choice, variants_around}
 use Rattle.meanings.specs.declared.errors.RuntimeError.TheVariants.{NoLabel, InactiveVariant}
 use Rattle.meanings.specs.Values.{Tree, Undefined, SetOf, ArrayOf, tree}
-use Rattle.meanings.specs.Outcomes.{ReadUndefined, Checked, Passes, Fails, Lacks, ◌&>◌}
+use Rattle.meanings.specs.Outcomes.{Malformed, Checked, Passes, Fails, Misfits, ◌&>◌}
 use Rattle.meanings.specs.Programs.{Prog, ◌>>=◌, ◌>>◌, pure, stop, ask, check, print}
 use Rattle.pascal_meaning.specs.declared.operations.Primitive.{Primitive}
 use Rattle.pascal_meaning.specs.declared.operations.Primitive.TheVariants as p
 use Rattle.pascal_meaning.specs.Numbers.{when, in_range, whole}
-use Rattle.pascal_meaning.specs.Sets.{with_member, with_members}
+use Rattle.pascal_meaning.specs.Sets.{set_of, with_member, with_members}
 use Rattle.pascal_meaning.specs.Texts.{text_of, length_of, byte_of, read_text}
 use Rattle.pascal_meaning.specs.Places.{among, Reach, InRange, ToLength, NoIndex, reach_of, pointed, converted, assign}
 use Rattle.pascal_meaning.specs.Input.{read_into, read_line, look_ahead}
@@ -25,14 +25,14 @@ use Rattle.pascal_meaning.specs.Statements.{on_unary, operated}
 -- ---- checks
 
 -- the cell 0 of a string
-unfoldable pub first_cell : Tree → Tree
-first_cell (ArrayOf (tree c ts)) = c
-first_cell _ = Undefined
+unfoldable pub first_cell : Tree → Checked Tree
+first_cell (ArrayOf (tree c ts)) = Passes c
+first_cell _ = Misfits
 
 unfoldable pub in_reach : Reach → Tree → ℤ → Checked ℤ
 in_reach (InRange r) s i = in_range (Some r) i
-in_reach ToLength s i = byte_of (first_cell s) &> λ n. in_range (Some (pos 1, pos n)) i
-in_reach NoIndex s i = Lacks
+in_reach ToLength s i = first_cell s &> λ c. byte_of c &> λ n. in_range (Some (pos 1, pos n)) i
+in_reach NoIndex s i = Misfits
 
 unfoldable pub innermost : List (Choice × Variant) → Option Variant
 innermost [] = None
@@ -40,9 +40,10 @@ innermost (v ∷ []) = Some v.1
 innermost (v ∷ w ∷ vs) = innermost (w ∷ vs)
 
 unfoldable pub selects : Option Variant → ℤ → Checked ℤ
-selects None z = Lacks
+selects None z = Misfits
 selects (Some v) z = when (among v.labels z) InactiveVariant z
 
+-- a pointer that is not nil
 unfoldable pub a_pointer : Tree → Checked Tree
 a_pointer t = pointed t &> λ h. Passes t
 
@@ -59,18 +60,16 @@ unfoldable pub set_made : Checked (List Bool) → Checked Tree
 set_made c = c &> λ s. Passes (SetOf s)
 
 unfoldable pub included : Tree → ℤ → Checked Tree
-included (SetOf s) z = set_made (with_member s z)
-included _ z = Lacks
+included t z = set_of t &> λ s. set_made (with_member s z)
 
 unfoldable pub range_included : Tree → (first last : ℤ) → Checked Tree
-range_included (SetOf s) first last = set_made (with_members s first last)
-range_included _ first last = Lacks
+range_included t first last = set_of t &> λ s. set_made (with_members s first last)
 
 -- a value that is written, with a width where one stands
-unfoldable pub written_operand : (type : ℕ) → (wide : Bool) → List Operand → Operand
-written_operand t true (x ∷ k ∷ xs) = Shown t (tree_of x) (Some (integer_of k))
-written_operand t w (x ∷ xs) = Shown t (tree_of x) None
-written_operand t w [] = Shown t Undefined None
+unfoldable pub written_operand : (type : ℕ) → (wide : Bool) → List Operand → Checked Operand
+written_operand t true (x ∷ k ∷ xs) = tree_of x &> λ v. integer_of k &> λ z. Passes (Shown t v (Some z))
+written_operand t false (x ∷ xs) = tree_of x &> λ v. Passes (Shown t v None)
+written_operand t w _ = Misfits
 
 unfoldable pub last_operand : Operand → List Operand → Operand
 last_operand x [] = x
@@ -84,8 +83,8 @@ target_of (x ∷ xs) = last_operand x xs
 
 -- an operator on two operands of these types
 unfoldable pub by_operator : BinaryOp → (left right : ℕ) → List Operand → Prog Tree
-by_operator o l r (x ∷ y ∷ []) = check (λ types. operated types o (type_at types l) (tree_of x) (type_at types r) (tree_of y))
-by_operator o l r _ = stop ReadUndefined
+by_operator o l r (x ∷ y ∷ []) = check (λ types. tree_of x &> λ t. tree_of y &> λ u. operated types o (type_at types l) t (type_at types r) u)
+by_operator o l r _ = stop Malformed
 
 -- a function of one or more operands, the first of this type
 unfoldable pub by_call : PredefCall → (first type : ℕ) → List Operand → Prog Tree
@@ -97,28 +96,28 @@ unfoldable pub no_answer : Prog (Unit {0}) → Prog Tree
 no_answer q = q >> pure Undefined
 
 unfoldable pub store_into : (target source : ℕ) → List Operand → Prog (Unit {0})
-store_into t s (Target q ∷ x ∷ []) = ask (λ c v. Some (type_at c.program.types s)) >>= λ source. assign (record q { of = t }) source (tree_of x)
-store_into t s _ = stop ReadUndefined
+store_into t s (Target q ∷ x ∷ []) = ask (λ c v. Passes (type_at c.program.types s)) >>= λ source. check (λ types. tree_of x) >>= λ u. assign (record q { of = t }) source u
+store_into t s _ = stop Malformed
 
 unfoldable pub read_target : ℕ → List Operand → Prog (Unit {0})
 read_target t (Target q ∷ []) = read_into (record q { of = t })
-read_target t _ = stop ReadUndefined
+read_target t _ = stop Malformed
 
 -- what the operands of a check decide
 unfoldable pub decided : Types → Primitive → List Operand → Checked Tree
-decided types p.Negate (x ∷ []) = on_unary unary.Minus (tree_of x)
-decided types p.BitNot (x ∷ []) = on_unary unary.BitNot (tree_of x)
-decided types (p.Range first last) (x ∷ []) = whole (in_range (Some (first, last)) (integer_of x))
-decided types (p.StringIndex string) (x ∷ i ∷ []) = whole (in_reach (reach_of types (type_at types string)) (tree_of x) (integer_of i))
-decided types (p.NotNil pointer) (x ∷ []) = a_pointer (tree_of x)
+decided types p.Negate (x ∷ []) = tree_of x &> λ t. on_unary unary.Minus t
+decided types p.BitNot (x ∷ []) = tree_of x &> λ t. on_unary unary.BitNot t
+decided types (p.Range first last) (x ∷ []) = whole (integer_of x &> λ z. in_range (Some (first, last)) z)
+decided types (p.StringIndex string) (x ∷ i ∷ []) = tree_of x &> λ s. whole (integer_of i &> λ i. in_reach (reach_of types (type_at types string)) s i)
+decided types (p.NotNil pointer) (x ∷ []) = tree_of x &> λ t. a_pointer t
 decided types p.NoCase xs = Fails NoLabel
-decided types (p.Selected r f) (x ∷ []) = whole (selects (innermost (variants_around (type_at types r) f)) (integer_of x))
-decided types (p.TextLength string) (x ∷ []) = counted (length_of (text_of (type_at types string) (tree_of x)))
-decided types (p.TextRead text) (x ∷ []) = read_text (text_of (type_at types text) (tree_of x)) &> λ bs. Passes Undefined
-decided types p.Include (x ∷ y ∷ []) = included (tree_of x) (integer_of y)
-decided types p.IncludeRange (x ∷ y ∷ z ∷ []) = range_included (tree_of x) (integer_of y) (integer_of z)
-decided types (p.Convert target text) (x ∷ []) = converted types target (type_at types text) (tree_of x)
-decided types _ xs = Lacks
+decided types (p.Selected r f) (x ∷ []) = whole (integer_of x &> λ z. selects (innermost (variants_around (type_at types r) f)) z)
+decided types (p.TextLength string) (x ∷ []) = tree_of x &> λ t. counted (length_of (text_of (type_at types string) t))
+decided types (p.TextRead text) (x ∷ []) = tree_of x &> λ t. read_text (text_of (type_at types text) t) &> λ bs. Passes Undefined
+decided types p.Include (x ∷ y ∷ []) = tree_of x &> λ s. integer_of y &> λ z. included s z
+decided types p.IncludeRange (x ∷ y ∷ z ∷ []) = tree_of x &> λ s. integer_of y &> λ first. integer_of z &> λ last. range_included s first last
+decided types (p.Convert target text) (x ∷ []) = tree_of x &> λ t. converted types target (type_at types text) t
+decided types _ xs = Misfits
 
 unfoldable pub perform : Primitive → List Operand → Prog Tree
 perform p.Add xs = by_operator op.Add 0 0 xs
@@ -153,7 +152,7 @@ perform (p.Pred ordinal) xs = by_call call.Pred ordinal ordinal xs
 perform p.Eof xs = by_call call.Eof 0 0 []
 perform p.Eoln xs = by_call call.Eoln 0 0 []
 perform p.EscapeCode xs = by_call call.EscapeCode 0 0 []
-perform p.LookAhead xs = ask (λ s v. Some v.input) >>= λ bs. check (λ types. whole (look_ahead bs))
+perform p.LookAhead xs = ask (λ s v. Passes v.input) >>= λ bs. check (λ types. whole (look_ahead bs))
 perform p.UpCase xs = by_call call.UpCase 0 0 xs
 perform (p.Length text) xs = by_call call.Length text 0 xs
 perform (p.StrLen text) xs = by_call call.StrLen text 0 xs
@@ -172,13 +171,13 @@ perform p.Get xs = no_answer (acted call.Get [])
 perform p.Page xs = no_answer (acted call.Page [])
 perform (p.Read target) xs = no_answer (read_target target xs)
 perform p.Readln xs = no_answer read_line
-perform (p.Write t w) xs = no_answer (write_one (written_operand t w xs))
+perform (p.Write t w) xs = no_answer (check (λ types. written_operand t w xs) >>= λ x. write_one x)
 perform p.Writeln xs = no_answer (print (10 ∷ []))
 perform (p.Inc target) (x ∷ xs) = no_answer (acted call.Inc (typed target x ∷ xs))
 perform (p.Dec target) (x ∷ xs) = no_answer (acted call.Dec (typed target x ∷ xs))
 perform (p.Insert text target) (x ∷ y ∷ i ∷ []) = no_answer (acted call.Insert (typed text x ∷ typed target y ∷ i ∷ []))
 perform (p.Delete target) (x ∷ xs) = no_answer (acted call.Delete (typed target x ∷ xs))
-perform (p.NumberText number target w) xs = no_answer (acted call.Str (written_operand number w xs ∷ typed target (target_of xs) ∷ []))
+perform (p.NumberText number target w) xs = no_answer (check (λ types. written_operand number w xs) >>= λ x. acted call.Str (x ∷ typed target (target_of xs) ∷ []))
 perform (p.Val text i code) (x ∷ y ∷ z ∷ []) = no_answer (acted call.Val (typed text x ∷ typed i y ∷ typed code z ∷ []))
 perform (p.StrAppend target text) (x ∷ y ∷ []) = no_answer (acted call.StrAppend (typed target x ∷ typed text y ∷ []))
 perform (p.SetStrLen target) (x ∷ xs) = no_answer (acted call.SetStrLen (typed target x ∷ xs))

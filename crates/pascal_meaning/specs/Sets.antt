@@ -3,12 +3,18 @@ use Rattle.std.specs.Prelude.{ℕ, zero, suc, ◌+◌, ◌-ℤ◌, ℤ, pos, Boo
 use Rattle.typed_tree.specs.declared.operations.BinaryOp.{BinaryOp}
 use Rattle.typed_tree.specs.declared.operations.BinaryOp.TheVariants.{Union, Difference, Intersection, Equal, Unequal, LessEq, GreaterEq}
 use Rattle.meanings.specs.declared.errors.RuntimeError.TheVariants.{OutOfRange}
-use Rattle.meanings.specs.Values.{Tree, Whole, SetOf}
-use Rattle.meanings.specs.Outcomes.{Checked, Passes, Lacks, ◌&>◌}
+use Rattle.meanings.specs.Values.{Tree, Undefined, Whole, SetOf}
+use Rattle.meanings.specs.Outcomes.{Checked, Passes, Lacks, Misfits, ◌&>◌}
 use Rattle.pascal_meaning.specs.Numbers.{when, between, in_range, of_bool}
 
 abbrev pub members : ℤ × ℤ
 members = (pos 0, pos 255)
+
+-- the truth values of a set
+unfoldable pub set_of : Tree → Checked (List Bool)
+set_of (SetOf ms) = Passes ms
+set_of Undefined = Lacks
+set_of _ = Misfits
 
 unfoldable pub empty_set : List Bool
 empty_set = replicate 256 false
@@ -46,7 +52,7 @@ on_sets Equal s t = Passes (Whole (of_bool (everywhere same s t)))
 on_sets Unequal s t = Passes (Whole (of_bool (not (everywhere same s t))))
 on_sets LessEq s t = Passes (Whole (of_bool (everywhere implies s t)))
 on_sets GreaterEq s t = Passes (Whole (of_bool (everywhere implies t s)))
-on_sets _ s t = Lacks
+on_sets _ s t = Misfits
 
 -- ---- constructors
 

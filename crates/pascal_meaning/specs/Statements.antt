@@ -19,24 +19,24 @@ use Rattle.meanings.specs.declared.errors.RuntimeError.TheVariants.{NoLabel}
 use Rattle.meanings.specs.Errors.{error_number}
 use Rattle.meanings.specs.Values.{Tree, Undefined, Whole, SetOf, NilPointer, HeapNumber, Reference, RoutineValue}
 use Rattle.meanings.specs.Worlds.{Slot, Refers, Calls}
-use Rattle.meanings.specs.Outcomes.{Cause, Error, Escape, Exit, Goto, Raise, ReadUndefined, Checked, Passes, Fails, Lacks}
+use Rattle.meanings.specs.Outcomes.{Cause, Error, Escape, Exit, Goto, Raise, Malformed, Checked, Passes, Fails, Misfits, ◌&>◌, there}
 use Rattle.meanings.specs.Programs.{Passed, Setting, Heading, Prog, ◌>>=◌, ◌>>◌, pure, stop, choose, ask, check, update, here, collect, handle, below, run_routine, turns}
 use Rattle.meanings.specs.Names.{find_name, with_slot, contains, block_of, label_owner}
 use Rattle.meanings.specs.Memory.{solid}
-use Rattle.pascal_meaning.specs.Numbers.{exact, in_range, on_numbers, of_bool, equal, number_of, holds, whole}
+use Rattle.pascal_meaning.specs.Numbers.{exact, in_range, on_numbers, of_bool, equal, number_of, numbers_of, holds, whole}
 use Rattle.pascal_meaning.specs.Sets.{on_sets, is_member, with_member, with_members}
 use Rattle.pascal_meaning.specs.Texts.{text_of, on_texts}
-use Rattle.pascal_meaning.specs.Places.{Spot, among, plain, place_named, read_spot, store}
+use Rattle.pascal_meaning.specs.Places.{Spot, among, plain, place_named, pointer_of, read_spot, store}
 use Rattle.pascal_meaning.specs.Input.{look_ahead}
 use Rattle.pascal_meaning.specs.Predefined.{activation_of}
 
 -- ---- operators
 
 unfoldable pub on_unary : UnaryOp → Tree → Checked Tree
-on_unary unary.Plus t = Passes t
-on_unary unary.Minus t = whole (exact (neg_ℤ (number_of t)))
-on_unary unary.Not t = Passes (Whole (of_bool (not (holds t))))
-on_unary unary.BitNot t = Passes (Whole (neg_ℤ (number_of t) -ℤ pos 1))
+on_unary unary.Plus t = whole (number_of t)
+on_unary unary.Minus t = whole (number_of t &> λ z. exact (neg_ℤ z))
+on_unary unary.Not t = whole (holds t &> λ b. Passes (of_bool (not b)))
+on_unary unary.BitNot t = whole (number_of t &> λ z. Passes (neg_ℤ z -ℤ pos 1))
 
 unfoldable pub same_pointer : Tree → Tree → Bool
 same_pointer NilPointer NilPointer = true
@@ -46,7 +46,7 @@ same_pointer _ _ = false
 unfoldable pub on_pointers : BinaryOp → Tree → Tree → Checked Tree
 on_pointers binary.Equal t u = Passes (Whole (of_bool (same_pointer t u)))
 on_pointers binary.Unequal t u = Passes (Whole (of_bool (not (same_pointer t u))))
-on_pointers _ t u = Lacks
+on_pointers _ t u = Misfits
 
 -- an operator on two values, each with its type; the types tell which texts are dynamic strings
 unfoldable pub operated : Types → BinaryOp → Option PasType → Tree → Option PasType → Tree → Checked Tree
@@ -54,9 +54,13 @@ operated types binary.Join p t q u = on_texts types.dialect binary.Join (text_of
 operated types op p (Whole x) q (Whole y) = whole (on_numbers types.dialect op x y)
 operated types op p (Whole x) q (SetOf ms) = Passes (Whole (of_bool (is_member x ms)))
 operated types op p (SetOf ls) q (SetOf ms) = on_sets op ls ms
-operated types op p NilPointer q u = on_pointers op NilPointer u
-operated types op p (HeapNumber h) q u = on_pointers op (HeapNumber h) u
+operated types op p NilPointer q u = pointer_of u &> λ u. on_pointers op NilPointer u
+operated types op p (HeapNumber h) q u = pointer_of u &> λ u. on_pointers op (HeapNumber h) u
 operated types op p t q u = on_texts types.dialect op (text_of p t) (text_of q u)
+
+-- the first where a truth value is true, else the second
+unfoldable pub choose_by : {X : Type 0} → Tree → Prog X → Prog X → Prog X
+choose_by t p q = check (λ types. holds t) >>= λ b. choose b p q
 
 -- a pointer that was taken earlier is read again
 unfoldable pub read_again : Tree → Prog (Unit {0})
@@ -65,8 +69,8 @@ read_again t = pure tt
 
 -- an operator after its left operand; `and` and `or` evaluate the right one only where the left one does not decide
 unfoldable pub apply_operator : BinaryOp → (left : ℕ) → Tree → (right : ℕ) → Prog Tree → Prog Tree
-apply_operator binary.And l t r p = choose (holds t) p (pure (Whole (pos 0)))
-apply_operator binary.Or l t r p = choose (holds t) (pure (Whole (pos 1))) p
+apply_operator binary.And l t r p = choose_by t p (pure (Whole (pos 0)))
+apply_operator binary.Or l t r p = choose_by t (pure (Whole (pos 1))) p
 apply_operator op l t r p = p >>= λ u. read_again t >> read_again u >> check (λ types. operated types op (type_at types l) t (type_at types r) u)
 
 -- an operator with its right operand, the type of that, and the type after it
@@ -88,8 +92,8 @@ pub data Element : Type 0 where
   Members : Prog Tree → Prog Tree → Element
 
 unfoldable pub with_element : Element → List Bool → Prog (List Bool)
-with_element (Member p) s = p >>= λ t. check (λ types. with_member s (number_of t))
-with_element (Members p q) s = p >>= λ t. q >>= λ u. check (λ types. with_members s (number_of t) (number_of u))
+with_element (Member p) s = p >>= λ t. check (λ types. number_of t &> λ z. with_member s z)
+with_element (Members p q) s = p >>= λ t. q >>= λ u. check (λ types. numbers_of t u &> λ r. with_members s r.0 r.1)
 
 unfoldable pub with_elements : List Element → List Bool → Prog Tree
 with_elements [] s = pure (SetOf s)
@@ -103,26 +107,34 @@ select_all (f ∷ fs) p = f p >>= λ q. select_all fs q
 
 -- `input^` is the next character; every other place is selected and read
 unfoldable pub read_place : Root → Prog Spot → Prog Tree
-read_place root.Input p = ask (λ s v. Some v.input) >>= λ bs. check (λ types. whole (look_ahead bs))
+read_place root.Input p = ask (λ s v. Passes v.input) >>= λ bs. check (λ types. whole (look_ahead bs))
 read_place r p = p >>= λ q. read_spot q
 
 -- ---- calls
 
-unfoldable pub routine_named : Option (ℕ × Slot) → Option RoutineValue
-routine_named (Some (a, Calls c)) = Some c
-routine_named _ = None
+unfoldable pub routine_named : Option (ℕ × Slot) → Checked RoutineValue
+routine_named (Some (a, Calls c)) = Passes c
+routine_named _ = Misfits
 
 unfoldable pub parent_of : Option Heading → Prog ℕ
 parent_of (Some h) = activation_of h.parent
-parent_of None = stop ReadUndefined
+parent_of None = stop Malformed
 
 -- a routine with the activation of its static parent, or the value of a procedural parameter
 unfoldable pub resolve : Callee → Prog RoutineValue
-resolve (callee.Routine k) = ask (λ s v. Some (block_of s.program.blocks (Routine k))) >>= λ h. parent_of h >>= λ a. pure (record { routine = k; parent = a })
+resolve (callee.Routine k) = ask (λ s v. Passes (block_of s.program.blocks (Routine k))) >>= λ h. parent_of h >>= λ a. pure (record { routine = k; parent = a })
 resolve (callee.Formal d) = ask (λ s v. routine_named (find_name v.activations s.here d))
 
 unfoldable pub call_routine : Callee → List (Prog Passed) → Prog Tree
 call_routine c args = collect args >>= λ passed. resolve c >>= λ r. run_routine r passed
+
+-- a procedure has no value
+unfoldable pub answered : Tree → Checked Tree
+answered Undefined = Misfits
+answered t = Passes t
+
+unfoldable pub call_function : Callee → List (Prog Passed) → Prog Tree
+call_function c args = call_routine c args >>= λ t. check (λ types. answered t)
 
 -- ---- sequences and gotos
 
@@ -166,7 +178,7 @@ unfoldable pub sequence : List Item → Prog (Unit {0})
 sequence is = turns (λ from. handle (own_goto (labels_of is)) (begin_at from is >> pure None)) First
 
 unfoldable pub goto : ℕ → Prog (Unit {0})
-goto l = ask (λ s v. label_owner s.program.blocks l) >>= λ o. activation_of o >>= λ a. stop (Goto a l)
+goto l = ask (λ s v. there (label_owner s.program.blocks l)) >>= λ o. activation_of o >>= λ a. stop (Goto a l)
 
 -- ---- loops
 
@@ -175,10 +187,10 @@ again_where true = Some tt
 again_where false = None
 
 unfoldable pub while_loop : Prog Tree → Prog (Unit {0}) → Prog (Unit {0})
-while_loop test body = test >>= λ t. choose (holds t) (below (turns (λ u. body >> test >>= λ t. pure (again_where (holds t))) tt)) (pure tt)
+while_loop test body = test >>= λ t. choose_by t (below (turns (λ u. body >> test >>= λ t. check (λ types. holds t &> λ b. Passes (again_where b))) tt)) (pure tt)
 
 unfoldable pub repeat_loop : Prog (Unit {0}) → Prog Tree → Prog (Unit {0})
-repeat_loop body test = below (turns (λ u. body >> test >>= λ t. pure (again_where (not (holds t)))) tt)
+repeat_loop body test = below (turns (λ u. body >> test >>= λ t. check (λ types. holds t &> λ b. Passes (again_where (not b)))) tt)
 
 unfoldable pub has_turn : (down : Bool) → (first last : ℤ) → Bool
 has_turn true first last = int_le last first
@@ -197,8 +209,8 @@ for_turns p down first last body = check (λ types. in_range (Range types p.of) 
     below (turns (λ z. store p (Whole z) >> body >> pure (next_turn down z l)) f)
 
 unfoldable pub for_loop : (name type : ℕ) → (down : Bool) → Prog Tree → Prog Tree → Prog (Unit {0}) → Prog (Unit {0})
-for_loop d t down first last body = first >>= λ f. last >>= λ l. variable_spot d t >>= λ p.
-    choose (has_turn down (number_of f) (number_of l)) (for_turns p down (number_of f) (number_of l) body) (pure tt) >> store p Undefined
+for_loop d t down first last body = first >>= λ f. last >>= λ l. check (λ types. numbers_of f l) >>= λ r. variable_spot d t >>= λ p.
+    choose (has_turn down r.0 r.1) (for_turns p down r.0 r.1 body) (pure tt) >> store p Undefined
 
 -- ---- case, with and try
 
@@ -211,13 +223,16 @@ unmatched _ = Passes tt
 unfoldable pub no_case : Prog (Unit {0})
 no_case = check (λ types. unmatched types.dialect)
 
+unfoldable pub case_with : List (List LabelRange × Prog (Unit {0})) → Prog (Unit {0}) → ℤ → Prog (Unit {0})
+case_with [] rest z = rest
+case_with (c ∷ cs) rest z = choose (among c.0 z) c.1 (case_with cs rest z)
+
 unfoldable pub cases : List (List LabelRange × Prog (Unit {0})) → Prog (Unit {0}) → Tree → Prog (Unit {0})
-cases [] rest t = rest
-cases (c ∷ cs) rest t = choose (among c.0 (number_of t)) c.1 (cases cs rest t)
+cases cs rest t = check (λ types. number_of t) >>= λ z. case_with cs rest z
 
 -- a name of this activation that stands for a reference
 unfoldable pub bind_reference : ℕ → Reference → Prog (Unit {0})
-bind_reference d r = here >>= λ a. update (λ types v. Some (record v { activations = with_slot v.activations a d (Refers r) }))
+bind_reference d r = here >>= λ a. update (λ types v. Passes (record v { activations = with_slot v.activations a d (Refers r) }))
 
 -- each reference is made in the scope of those before it
 unfoldable pub with_all : List (ℕ × Prog Reference) → Prog (Unit {0}) → Prog (Unit {0})
@@ -234,7 +249,7 @@ code_of (Escape n) = n
 
 unfoldable pub recover_from : Prog (Unit {0}) → Option Cause → Prog (Unit {0})
 recover_from p None = pure tt
-recover_from p (Some c) = update (λ types v. Some (record v { escape_code = code_of c })) >> p
+recover_from p (Some c) = update (λ types v. Passes (record v { escape_code = code_of c })) >> p
 
 unfoldable pub try_recover : Prog (Unit {0}) → Prog (Unit {0}) → Prog (Unit {0})
 try_recover body recover = handle raised (body >> pure None) >>= λ c. recover_from recover c

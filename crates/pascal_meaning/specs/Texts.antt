@@ -7,8 +7,8 @@ use Rattle.typed_tree.specs.declared.types.PasType.TheVariants.{DynString}
 use Rattle.typed_tree.specs.declared.operations.BinaryOp.{BinaryOp}
 use Rattle.typed_tree.specs.declared.operations.BinaryOp.TheVariants.{Join, Equal, Unequal, Less, Greater, LessEq, GreaterEq}
 use Rattle.meanings.specs.declared.errors.RuntimeError.TheVariants.{LongText}
-use Rattle.meanings.specs.Values.{Tree, Whole, ArrayOf, Trees, no_trees, tree}
-use Rattle.meanings.specs.Outcomes.{Checked, Passes, Lacks, ◌&>◌}
+use Rattle.meanings.specs.Values.{Tree, Undefined, Whole, ArrayOf, Trees, no_trees, tree}
+use Rattle.meanings.specs.Outcomes.{Checked, Passes, Lacks, Misfits, ◌&>◌, expect}
 use Rattle.pascal_meaning.specs.Numbers.{when, of_bool}
 
 -- a text before its cells are read
@@ -33,7 +33,8 @@ count (tree t ts) = suc (count ts)
 -- a cell as it is read
 unfoldable pub byte_of : Tree → Checked ℕ
 byte_of (Whole z) = Passes (unsigned_abs z)
-byte_of _ = Lacks
+byte_of Undefined = Lacks
+byte_of _ = Misfits
 
 -- the cells of the characters
 unfoldable pub cells_of : Text → Trees
@@ -73,10 +74,19 @@ compare_cells zero (suc n) ts us = Passes Before
 compare_cells (suc m) zero ts us = Passes After
 compare_cells (suc m) (suc n) (tree t ts) (tree u us) = byte_of t &> λ b. byte_of u &> λ c.
     elim (nat_lt b c) [ true ↦ Passes Before | false ↦ elim (nat_lt c b) [ true ↦ Passes After | false ↦ compare_cells m n ts us ] ]
-compare_cells (suc m) (suc n) _ _ = Lacks
+compare_cells (suc m) (suc n) _ _ = Misfits
 
 unfoldable pub compare : Text → Text → Checked Order
 compare t u = length_of t &> λ m. length_of u &> λ n. compare_cells m n (cells_of t) (cells_of u)
+
+unfoldable pub is_comparison : BinaryOp → Bool
+is_comparison Equal = true
+is_comparison Unequal = true
+is_comparison Less = true
+is_comparison Greater = true
+is_comparison LessEq = true
+is_comparison GreaterEq = true
+is_comparison _ = false
 
 unfoldable pub relation : BinaryOp → Order → Bool
 relation Equal Alike = true
@@ -111,7 +121,7 @@ making d c = c &> λ bs. limited d 255 bs &> λ bs. Passes (made bs)
 
 unfoldable pub on_texts : Dialect → BinaryOp → Text → Text → Checked Tree
 on_texts d Join t u = making d (read_texts (t ∷ u ∷ []))
-on_texts d op t u = compare t u &> λ order. Passes (Whole (of_bool (relation op order)))
+on_texts d op t u = expect (is_comparison op) &> λ c. compare t u &> λ order. Passes (Whole (of_bool (relation op order)))
 
 -- ---- stores into dynamic strings
 
@@ -122,6 +132,6 @@ over (tree t ts) no_trees = no_trees
 over (tree t ts) (tree old olds) = tree t (over ts olds)
 
 -- the cells of a string that takes a text: the bytes above the new length stay
-unfoldable pub filled : Trees → Tree → Tree
-filled ts (ArrayOf (tree c olds)) = ArrayOf (tree (Whole (pos (count ts))) (over ts olds))
-filled ts old = old
+unfoldable pub filled : Trees → Tree → Checked Tree
+filled ts (ArrayOf (tree c olds)) = Passes (ArrayOf (tree (Whole (pos (count ts))) (over ts olds)))
+filled ts old = Misfits

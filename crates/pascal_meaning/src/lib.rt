@@ -1,8 +1,9 @@
 //! The meaning of Pascal in four dialects, as definitions in `specs/`, and what holds of it.
 //!
 //! `Pas typed input n` is the answer of a typed program at the bound `n`: its end with output, status
-//! and routine entries, or what was written and entered before something undefined was read, or
-//! before the bound cut it off. `Whole.run` is the same under a name that unfolds every definition:
+//! and routine entries, or what was written and entered before something undefined was read, before
+//! something was come to that stands in no tree that an elaboration makes, or before the bound cut it
+//! off. `Whole.run` is the same under a name that unfolds every definition:
 //! a worked program is `refl` under `unfolding run`. The laws are the contracts of `laws`.
 //!
 //! | Definitions | What they say |
@@ -30,7 +31,9 @@
 //!   is written, as the number of Turbo's `str`, else a `Value`. The array from which `pack` copies is
 //!   a `Value`, and so is the one from which `unpack` copies. The string of `strmax` may be either. A
 //!   file stands among no arguments.
-//! - A tree that does not fit its types has some meaning too, of which nothing is promised.
+//! - A tree that no elaboration makes has the answer `MalformedAfter` as soon as it comes to a name, a
+//!   routine, a label, a field or a type that is not there, or to a value, an operand or an argument of
+//!   another kind than is wanted there. Its types are not compared otherwise.
 #![tactic(auto)]
 
 pub mod laws;

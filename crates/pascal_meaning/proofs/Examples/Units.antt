@@ -1,6 +1,6 @@
 -- Units and their initial parts.
 use Rattle.std.proofs.Common.{◌≡◌, [], ◌∷◌, refl, false}
-use Rattle.std.specs.Prelude.{codes, pos}
+use Rattle.std.specs.Prelude.{codes}
 use Rattle.p2c_text.specs.declared.dialect.Dialect.TheVariants.{Turbo, Ucsd, Hp}
 use Rattle.typed_tree.specs.declared.types.PasType.TheVariants.{Literal}
 use Rattle.typed_tree.specs.declared.declarations.Callee.TheVariants.{Routine as CalleeRoutine}
