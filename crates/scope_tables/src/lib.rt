@@ -10,4 +10,3 @@ mod scopes;
 
 pub use fault::DeclareFault;
 pub use scopes::Scopes;
-

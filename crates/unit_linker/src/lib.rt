@@ -15,4 +15,3 @@ mod units;
 
 pub use fault::LinkFault;
 pub use linking::{Linked, link};
-

@@ -18,8 +18,14 @@ use std::{env, fs};
 /// Tells of a row what came in place of what it wants.
 fn tell(rt: &HostRuntime, row: &Row, played: &Played) -> Result<()> {
     println!(rt; "{}: status {}", row.name, played.status)?;
-    println!(rt; "  error:  {:?}", String::from_utf8_lossy(rt.alloc(), &played.error)?)?;
-    println!(rt; "  output: {:?}", String::from_utf8_lossy(rt.alloc(), &played.output)?)?;
+    println!(rt;
+        "  error:  {:?}",
+        String::from_utf8_lossy(rt.alloc(), &played.error)?
+    )?;
+    println!(rt;
+        "  output: {:?}",
+        String::from_utf8_lossy(rt.alloc(), &played.output)?
+    )?;
     Ok(())
 }
 
