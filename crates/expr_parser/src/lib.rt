@@ -21,8 +21,6 @@ pub mod operators;
 pub mod parsing;
 pub mod source;
 pub mod step;
-#[cfg(test)]
-mod tests;
 mod texts;
 
 pub use fault::SyntaxFault;

@@ -16,7 +16,5 @@ pub mod laws;
 pub mod parsing;
 mod rests;
 mod simple;
-#[cfg(test)]
-mod tests;
 
 pub use parsing::statement;

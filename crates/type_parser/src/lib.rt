@@ -17,8 +17,6 @@ pub mod laws;
 pub mod names;
 pub mod parsing;
 mod simple;
-#[cfg(test)]
-mod tests;
 pub mod types;
 
 pub use parsing::{formals_at, type_at};

@@ -11,8 +11,6 @@ mod files;
 pub mod laws;
 pub mod parsing;
 mod parts;
-#[cfg(test)]
-mod tests;
 mod words;
 
 pub use expr_parser::SyntaxFault;
