@@ -1,7 +1,7 @@
 //! The trees with which blocks begin.
-ghost use Rattle.std.specs.Prelude.{◌≡◌, ◌++◌, ◌∷◌, [], Some, pos, ◌<◌, ◌^◌, IfOk, OnOk, length, reverse, take};
+ghost use Rattle.std.specs.Prelude.{◌≡◌, ◌++◌, ◌∷◌, [], Some, pos, ◌<◌, ◌^◌, IfOk, OnOk, OnErr, length, reverse, take};
 ghost use Rattle.c_meaning.specs.Fresh.{fresh, fresh_block as fresh_variable, fresh_blocks, struct_tree, members_tree, member_tree, copies};
-ghost use Rattle.c_meaning.specs.Cells.{Int};
+ghost use Rattle.c_meaning.specs.Cells.{Blocks, Int};
 ghost use Rattle.c_cells.specs.Scalars.{scalar_tree, scalar_cell};
 ghost use Rattle.c_cells.specs.Slots.{int_cell};
 
@@ -72,7 +72,8 @@ fn push_variable(
     variable: &CVariable,
     memory: &mut Memory,
 ) -> Result<(), AllocError>
-    ensures { OnOk result (memory.new ≡ memory.old ++ Some (fresh_variable zeroed declared.now.list.now variable.now) ∷ []) }
+    ensures ok { OnOk result (memory.new ≡ memory.old ++ Some (fresh_variable zeroed declared.now.list.now variable.now) ∷ []) }
+    ensures err { OnErr result (memory.new ≡ memory.old) }
 {
     if is_int(&variable.of) {
         return memory.push_int(first_number(zeroed));
@@ -81,7 +82,8 @@ fn push_variable(
     memory.push(alloc, block)
 }
 
-/// Makes the blocks of variables. The answer is the number of the block that is made next.
+/// Makes the blocks of variables. The answer is the number of the block that is made next. Where
+/// memory is short, only the first of them are made, and the blocks before these stay.
 #[tactic(auto, unfolding(c_meaning::specs::Fresh::fresh_blocks, c_meaning::specs::Fresh::fresh_block))]
 pub fn push_fresh(
     alloc: Global,
@@ -93,6 +95,7 @@ pub fn push_fresh(
     ensures blocks { OnOk result (memory.new ≡ memory.old ++ fresh_blocks zeroed declared.now.list.now variables.now) }
     ensures number { IfOk result (λ n. n ≡ length memory.new) }
     ensures small { OnOk result (length memory.new < 2 ^ 63) }
+    ensures err { OnErr result ((made : Blocks) × (memory.new ≡ memory.old ++ made)) }
 {
     let mut rest = variables;
     while let [first, after @ ..] = rest {

@@ -1,7 +1,7 @@
 //! Blocks by their numbers.
-ghost use Rattle.std.specs.Prelude.{◌≡◌, ◌+◌, ◌<◌, ◌^◌, ◌∷◌, ◌++◌, [], Some, None, true, false, OnOk, IfErr, IfSome, length, slice_get, slice_set};
+ghost use Rattle.std.specs.Prelude.{◌≡◌, ◌+◌, ◌<◌, ◌^◌, ◌∷◌, ◌++◌, [], Some, None, true, false, OnOk, OnErr, IfErr, IfSome, length, slice_get, slice_set};
 ghost use Rattle.std.specs.Option.{option_map};
-ghost use Rattle.c_meaning.specs.Cells.{Leaf, Int, block_at};
+ghost use Rattle.c_meaning.specs.Cells.{Leaf, Int, Blocks, block_at};
 ghost use Rattle.c_meaning.specs.Answer.{Got};
 ghost use Rattle.c_meaning.specs.States.{store};
 ghost use Rattle.c_cells.specs.Halts.{Refuses};
@@ -209,7 +209,8 @@ impl Memory {
     /// Makes the block that lies in a slot.
     #[tactic(auto, using(crate::proofs::Spread::length_made, crate::proofs::Spread::pushed, crate::proofs::Spread::rises_pushed))]
     fn push_slot(&mut self, slot: Slot) -> Result<(), AllocError>
-        ensures { OnOk result (self.new ≡ self.old ++ slot ∷ []) }
+        ensures ok { OnOk result (self.new ≡ self.old ++ slot ∷ []) }
+        ensures err { OnErr result (self.new ≡ self.old) }
     {
         if !self.has_numbers(1) {
             return Err(AllocError);
@@ -225,7 +226,8 @@ impl Memory {
 
     /// Makes a block.
     pub fn push(&mut self, alloc: Global, block: Block) -> Result<(), AllocError>
-        ensures { OnOk result (self.new ≡ self.old ++ Some block ∷ []) }
+        ensures ok { OnOk result (self.new ≡ self.old ++ Some block ∷ []) }
+        ensures err { OnErr result (self.new ≡ self.old) }
     {
         let slot = Slot::new(alloc, block)?;
         self.push_slot(slot)
@@ -233,15 +235,17 @@ impl Memory {
 
     /// Makes the block of an `int64_t` variable.
     pub fn push_int(&mut self, number: Option<i64>) -> Result<(), AllocError>
-        ensures { OnOk result (self.new ≡ self.old ++ Some (int_block (int_cell number)) ∷ []) }
+        ensures ok { OnOk result (self.new ≡ self.old ++ Some (int_block (int_cell number)) ∷ []) }
+        ensures err { OnErr result (self.new ≡ self.old) }
     {
         self.push_slot(Slot::int(number))
     }
 
-    /// Makes blocks that lie in slots, in order, and leaves none there. Where memory is short,
-    /// nothing is told of the blocks.
+    /// Makes blocks that lie in slots, in order, and leaves none there. Where memory is short, only
+    /// the first of them are made, and the blocks before these stay.
     pub fn append(&mut self, more: &mut Vec<Slot>) -> Result<(), AllocError>
-        ensures { OnOk result ((self.new ≡ self.old ++ more.old.items) × (more.new.items ≡ [])) }
+        ensures ok { OnOk result ((self.new ≡ self.old ++ more.old.items) × (more.new.items ≡ [])) }
+        ensures err { OnErr result ((made : Blocks) × (self.new ≡ self.old ++ made)) }
     {
         for slot in more.drain(..) {
             self.push_slot(slot)?;
@@ -249,8 +253,8 @@ impl Memory {
         Ok(())
     }
 
-    /// Changes a part of a block. Where memory is short, nothing is told of the blocks.
-    #[tactic(auto, using(crate::proofs::Spread::stored, crate::proofs::Spread::refused, crate::proofs::Spread::gone_use, crate::proofs::Spread::rises_set, crate::proofs::Spread::rises_set_twice))]
+    /// Changes a part of a block. Where that fails, the block is gone.
+    #[tactic(auto, using(crate::proofs::Spread::stored, crate::proofs::Spread::refused, crate::proofs::Spread::gone_use, crate::proofs::Spread::set, crate::proofs::Spread::gone_stays, crate::proofs::Spread::rises_set, crate::proofs::Spread::rises_set_twice))]
     pub fn store(
         &mut self,
         alloc: Global,
@@ -260,6 +264,7 @@ impl Memory {
     ) -> Result<(), Halt>
         ensures stored { OnOk result (store self.old number path.now tree ≡ Got self.new) }
         ensures refused { IfErr result (λ halt. Refuses halt (store self.old number path.now tree)) }
+        ensures gone { OnErr result (self.new ≡ slice_set self.old number None) }
     {
         let Some(place) = place_of(&self.kept, self.made, number) else {
             return Err(Halt::Stuck(StuckKind::GoneUse));

@@ -1,6 +1,7 @@
 -- What a run tells, by what its steps tell.
 use Rattle.std.proofs.Common.{◌≡◌, ◌≢◌, ℕ, Bool, true, false, zero, suc, ◌+◌, ◌≤◌, ◌<◌, List, [], ◌∷◌, ◌++◌, length, take, Option, Some, None, refl, sym, ap, subst, ◌∙◌, append_assoc, inl, inr, ◌⊎◌, arith}
 use Rattle.std.proofs.lemmas.List.{append-nil}
+use Rattle.std.specs.declared.alloc.AllocError.{AllocError}
 use Rattle.c_tree.specs.declared.program.CProgram.{CProgram}
 use Rattle.c_meaning.specs.declared.StuckKind.{StuckKind}
 use Rattle.c_meaning.specs.States.{State}
@@ -18,7 +19,7 @@ use Rattle.held_bytes.proofs.ToldLemmas.{Gains-refl, Gains-append, GainsPart-sec
 use Rattle.held_bytes.specs.declared.output.HeldOutput.{HeldOutput}
 use Rattle.held_bytes.specs.Held.{bytes_in}
 use Rattle.c_stepper.specs.Runners.{AsksForByte}
-use Rattle.c_machine.specs.Machines.{stood, Begins, Dashes, Goes, Steps, Takes, output_at, Reaches, told, CutShort, IsAfter, MeetsNoEnd, WantsInput, TakesFew, PutsFirst, PutBefore, PutBeforeTaken, Ran, TakeFaults, PutFaults, RunFaults, ended_by}
+use Rattle.c_machine.specs.Machines.{stood, Begins, Dashes, Goes, Steps, Takes, output_at, Reaches, told, CutShort, IsAfter, MeetsNoEnd, WantsInput, StopsIn, TakesFew, PutsFirst, PutBefore, PutBeforeTaken, Ran, TakeFaults, PutFaults, RunFaults, ended_by}
 use Rattle.c_machine.specs.declared.machine.Machine.{Machine}
 use Rattle.c_machine.specs.declared.machine.Stepped.{Stepped}
 use Rattle.c_machine.specs.declared.machine.Stepped.TheVariants as s
@@ -192,9 +193,9 @@ unfolding start
 input_at_start c bytes = refl
 
 -- nothing was done
-pub none_taken : (c : CProgram) (bytes : List ℕ) (most : ℕ) → TakesFew c bytes (Some bytes) most
+pub none_taken : (c : CProgram) (bytes : List ℕ) (most : ℕ) (e : AllocError) → TakesFew c bytes (Some bytes) most (v.Memory e)
 unfolding run_from
-none_taken c bytes most = record { steps = 0; within = omega arith; state = start c bytes; is = refl; ahead = []; loses = input_at_start c bytes; few = inl (omega arith) }
+none_taken c bytes most e = record { steps = 0; within = omega arith; state = start c bytes; is = refl; ahead = []; loses = input_at_start c bytes; few = inl (omega arith); stop = tt }
 
 pub none_ran : (c : CProgram) (bytes : List ℕ) (most : ℕ) (w : Option (List ℕ)) → (r : Reaches c bytes most) × Gains w w r.output
 unfolding CRun answer_of run_from start
@@ -296,6 +297,16 @@ at_most zero (suc n) h = inl (omega arith)
 at_most (suc j) zero h = absurd (omega (arith, h))
 at_most (suc j) (suc n) h = one_later j n (at_most j n (omega (arith, h)))
 
+-- a run whose step tells this answer stops in the state before it
+stops_by : (c : CProgram) (st : State) (was : List ℕ) (count : ℕ) (new : Machine) (left' w w' : Option (List ℕ)) (output calls : List ℕ) (answer : Stepped) (steps most : ℕ) → steps < most → answer ≢ s.Going
+    → Steps c was count new left' w w' output calls answer (CStep c st) → (answer ≡ s.InputFault → AsksForByte c st) → StopsIn c st steps most (ended_by new.calls answer)
+stops_by c st was count new left' w w' output calls s.Going steps most l n p asks = absurd (n refl)
+stops_by c st was count new left' w w' output calls (s.Ended status) steps most l n p asks = (l, (output, calls, p.0))
+stops_by c st was count new left' w w' output calls (s.Stuck kind) steps most l n p asks = (l, (output, p.0))
+stops_by c st was count new left' w w' output calls s.InputFault steps most l n p asks = asks refl
+stops_by c st was count new left' w w' output calls s.OutputFault steps most l n p asks = tt
+stops_by c st was count new left' w w' output calls (s.Memory e) steps most l n p asks = tt
+
 module _ (c : CProgram) (bytes : List ℕ) (old new : Machine) (left0 left1 w w1 w2 : Option (List ℕ)) (answer : Stepped) (a : Along c bytes old left0 w w1) (t : Takes c old new left0 left1 w1 w2 answer) where
   -- the bytes that are left before the step
   more_left : (rest : List ℕ) → (new.input.over ≡ true → rest ≡ []) → old.input.over ≡ true → t.taken ++ rest ≡ []
@@ -362,15 +373,22 @@ module _ (c : CProgram) (bytes : List ℕ) (old new : Machine) (left0 left1 w w1
     told_ran : (most : ℕ) → old.taken + 1 ≤ most → answer ≢ s.Going → Ran c bytes left1 most w w2 (ended_by new.calls answer)
     told_ran most within n = over c bytes old (t.taken ++ l1) w w1 here new left1 (Some l1) w2 most answer within n (wants most within) (t.step l1 here.output here.calls over1 here.count)
 
-    told_few : (most : ℕ) → old.taken ≤ most → TakesFew c bytes left1 most
-    told_few most within = record {
+    stops : (most : ℕ) → old.taken + 1 ≤ most → answer ≢ s.Going → StopsIn c (stood c old (t.taken ++ l1) here.output here.calls) old.taken most (ended_by new.calls answer)
+    stops most within n =
+        let st = stood c old (t.taken ++ l1) here.output here.calls in
+        stops_by c st old.output.bytes.items old.calls new (Some l1) w1 w2 here.output here.calls answer old.taken most (omega (arith, within)) n (t.step l1 here.output here.calls over1 here.count)
+        (λ is. let q = t.wants is in q.3 (t.taken ++ l1) here.output here.calls)
+
+    told_few : (most : ℕ) → old.taken + 1 ≤ most → answer ≢ s.Going → TakesFew c bytes left1 most (ended_by new.calls answer)
+    told_few most within n = record {
       steps = old.taken;
-      within = within;
+      within = omega (arith, within);
       state = stood c old (t.taken ++ l1) here.output here.calls;
       is = here.run;
       ahead = bytes_in old.input ++ t.taken;
       loses = subst (λ (x : Option (List ℕ)). o.Loses (Some (bytes_in old.input ++ (t.taken ++ l1))) x (bytes_in old.input ++ t.taken)) (sym last_left) (sym (append_assoc (bytes_in old.input) t.taken l1));
       few = t.few l1 here.output here.calls;
+      stop = stops most within n;
     }
 
   -- ---- what is put before bytes are taken
@@ -432,8 +450,8 @@ module _ (c : CProgram) (bytes : List ℕ) (old new : Machine) (left0 left1 w w1
   pub ends_run : answer ≢ s.Going → Ran c bytes left1 most w w2 (ended_by new.calls answer)
   ends_run n = told_ran c bytes old new left0 left1 w w1 w2 answer a t l.0 l.1 l.2 over_left most within n
 
-  pub takes_few : TakesFew c bytes left1 most
-  takes_few = told_few c bytes old new left0 left1 w w1 w2 answer a t l.0 l.1 l.2 over_left most (omega (arith, within))
+  pub takes_few : answer ≢ s.Going → TakesFew c bytes left1 most (ended_by new.calls answer)
+  takes_few n = told_few c bytes old new left0 left1 w w1 w2 answer a t l.0 l.1 l.2 over_left most within n
 
 -- ---- the steps are done
 
@@ -444,6 +462,15 @@ put_at_end X Y Z w w' held (v.Status status calls) good bad = (held, (good (λ e
 put_at_end X Y Z w w' held (v.Stuck kind) good bad = (held, (good (λ e. cc)).1)
 put_at_end X Y Z w w' held v.InputFault good bad = (held, (good (λ e. cc)).1)
 put_at_end X Y Z w w' held (v.Memory x) good bad = (held, (good (λ e. cc)).1)
+
+-- the steps are done, or what is held was put in part
+stops_at_end : (c : CProgram) (st : State) (X : Type 0) (steps : ℕ) (r : e.Ended) → (r ≢ v.OutputFault → (r ≡ v.Spent) × X) → StopsIn c st steps steps r
+stops_at_end c st X steps v.OutputFault good = tt
+stops_at_end c st X steps v.Spent good = refl
+stops_at_end c st X steps (v.Status status calls) good = absurd (let is = (good (λ e. cc)).0 in cc)
+stops_at_end c st X steps (v.Stuck kind) good = absurd (let is = (good (λ e. cc)).0 in cc)
+stops_at_end c st X steps v.InputFault good = absurd (let is = (good (λ e. cc)).0 in cc)
+stops_at_end c st X steps (v.Memory x) good = tt
 
 left_told : (left : Option (List ℕ)) (bytes taken : List ℕ) → o.Loses (Some bytes) left taken → (l : List ℕ) × (left ≡ Some l) × (bytes ≡ taken ++ l)
 left_told None bytes taken p = absurd p
@@ -459,15 +486,16 @@ module _ (c : CProgram) (bytes : List ℕ) (old : Machine) (left w w1 w2 : Optio
   pub last_put : (left' : Option (List ℕ)) (X Y : Type 0) (r : e.Ended) → (r ≢ v.OutputFault → (r ≡ v.Spent) × Gains w1 w2 old.output.bytes.items × X) → (r ≡ v.OutputFault → GainsPart w1 w2 old.output.bytes.items × Y) → Ran c bytes left' old.taken w w2 r
   last_put left' X Y r good bad = spent_so c bytes old rest_told.0 left' w w1 w2 X Y r at_last good bad
 
-  pub last_few : (most : ℕ) → old.taken ≤ most → length (bytes_in old.input) < 4096 → TakesFew c bytes left most
-  last_few most within few = record {
+  pub last_few : (X Y : Type 0) (r : e.Ended) → (r ≢ v.OutputFault → (r ≡ v.Spent) × X × Y) → length (bytes_in old.input) < 4096 → TakesFew c bytes left old.taken r
+  last_few X Y r good few = record {
     steps = old.taken;
-    within = within;
+    within = omega arith;
     state = stood c old rest_told.0 at_last.output at_last.calls;
     is = at_last.run;
     ahead = bytes_in old.input;
     loses = subst (λ (x : Option (List ℕ)). o.Loses (Some (bytes_in old.input ++ rest_told.0)) x (bytes_in old.input)) (sym rest_told.1) refl;
     few = inl few;
+    stop = stops_at_end c (stood c old rest_told.0 at_last.output at_last.calls) (X × Y) old.taken r (λ n. let g = good n in (g.0, (g.1, g.2)));
   }
 
   -- the rest of what is held is put, or a part of it

@@ -113,6 +113,15 @@ pub record Takes (c : CProgram) (old new : Machine) (left left' w w' : Option (L
   -- what is wanted is a byte
   pub wants : result ≡ s.InputFault → (old.input.over ≡ false) × (bytes_in old.input ≡ []) × (taken ≡ []) × ((rest output calls : List ℕ) → AsksForByte c (stood c old rest output calls))
 
+-- the number of steps that are done, one more where the step is: it went on, or ended `main`
+abbrev pub counted : Stepped → ℕ → ℕ
+counted s.Going n = n + 1
+counted (s.Ended status) n = n + 1
+counted (s.Stuck kind) n = n
+counted s.InputFault n = n
+counted s.OutputFault n = n
+counted (s.Memory e) n = n
+
 -- ---- the end of a machine
 
 -- what is held is put, and where that fails the answer says so
@@ -191,8 +200,18 @@ pub record WantsInput (c : CProgram) (input : List ℕ) (left' : Option (List �
   pub first : MeetsNoEnd c taken steps
   pub put : Gains written written' state.output
 
--- few bytes are taken that no `getchar` asks for: where a run comes to a state, the bytes `ahead` of its input are taken, and the rest is left
-pub record TakesFew (c : CProgram) (input : List ℕ) (left' : Option (List ℕ)) (most : ℕ) : Type 0 where
+-- a run stops in a state after so many steps: the next step ends it or is stuck, the steps are done, or
+-- a byte is asked for which the input failed to give
+abbrev pub StopsIn : CProgram → State → (steps most : ℕ) → e.Ended → Type 0
+StopsIn c st steps most (v.Status status calls) = (steps < most) × ((output : List ℕ) × (k : List ℕ) × (CStep c st ≡ Ended status output k))
+StopsIn c st steps most v.Spent = steps ≡ most
+StopsIn c st steps most (v.Stuck kind) = (steps < most) × ((output : List ℕ) × (CStep c st ≡ Halted kind output))
+StopsIn c st steps most v.InputFault = AsksForByte c st
+StopsIn c st steps most v.OutputFault = Unit {0}
+StopsIn c st steps most (v.Memory e) = Unit {0}
+
+-- few bytes are taken that no `getchar` asks for: where a run stops in a state, the bytes `ahead` of its input are taken, and the rest is left
+pub record TakesFew (c : CProgram) (input : List ℕ) (left' : Option (List ℕ)) (most : ℕ) (ended : e.Ended) : Type 0 where
   pub steps : ℕ
   pub within : steps ≤ most
   pub state : State
@@ -200,6 +219,7 @@ pub record TakesFew (c : CProgram) (input : List ℕ) (left' : Option (List ℕ)
   pub ahead : List ℕ
   pub loses : o.Loses (Some state.input) left' ahead
   pub few : AreFew c state ahead
+  pub stop : StopsIn c state steps most ended
 
 -- All that a program writes is put before more input is taken: `piece` was taken last, and by then the
 -- run on the bytes before it had come, for the first time, to ask for a byte more than these.

@@ -8,7 +8,7 @@ ghost use Rattle.held_bytes.specs.Written.{GainsPart};
 ghost use Rattle.held_bytes.specs.Held.{bytes_in, IsDry};
 ghost use Rattle.c_stepper.specs.Quick.{NextAt, ReadsNot};
 ghost use Rattle.c_stepper.specs.Runners.{FitsFrames, IsSettled, statement_at, reads_in, reads_here, Acts};
-ghost use Rattle.c_machine.specs.Machines.{stood, IsFor, Begins, StandsAs, Dashes, Steps, Takes, Closes, Writes, IsOver, SameBut, PutFaults, TakeFaults, RunFaults, Ran, TakesFew, PutBeforeTaken, HasStatus, ended_by};
+ghost use Rattle.c_machine.specs.Machines.{stood, counted, IsFor, Begins, StandsAs, Dashes, Steps, Takes, Closes, Writes, IsOver, SameBut, PutFaults, TakeFaults, RunFaults, Ran, TakesFew, PutBeforeTaken, HasStatus, ended_by};
 
 use c_cells::halt::Halt;
 use c_meaning::StuckKind;
@@ -117,6 +117,7 @@ impl Machine {
         ensures faults { PutFaults (O.faults out.old) (O.faults out.new) result }
         ensures nothing { self.old.output.bytes.items ≡ [] → result ≢ Stepped.OutputFault }
         ensures not_going { result ≢ Stepped.Going }
+        ensures taken { self.new.taken ≡ counted result self.old.taken }
         ensures no_input { result ≢ Stepped.InputFault }
     {
         match halt {
@@ -140,17 +141,22 @@ impl Machine {
 
     /// A byte is written.
     fn write<O: Sink>(&mut self, byte: u8, out: &mut O) -> Stepped
+        requires { self.old.taken + 1 < 2 ^ 64 }
         ensures wrote { Writes self.old.output.bytes.items self.new.output.bytes.items (O.written out.old) (O.written out.new) (byte ∷ []) result }
         ensures over { IsOver self.old self.new result }
         ensures few { length self.new.output.bytes.items < 4096 }
-        ensures stays { SameBut self.old self.new }
+        ensures same { (self.new.runner ≡ self.old.runner) × (self.new.input ≡ self.old.input) × (self.new.calls ≡ self.old.calls) }
+        ensures taken { self.new.taken ≡ counted result self.old.taken }
         ensures faults { PutFaults (O.faults out.old) (O.faults out.new) result }
     {
         if let Err(error) = self.output.push(byte) {
             return self.close(Stepped::Memory(error), out);
         }
         match self.output.flush_piece(out) {
-            Ok(()) => Stepped::Going,
+            Ok(()) => {
+                self.taken += 1;
+                Stepped::Going
+            }
             Err(_) => {
                 self.over = Some(Stepped::OutputFault);
                 Stepped::OutputFault
@@ -158,7 +164,30 @@ impl Machine {
         }
     }
 
-    /// A step was taken.
+    /// `main` ends.
+    fn finish<O: Sink>(&mut self, status: u8, out: &mut O) -> Stepped
+        requires { self.old.taken + 1 < 2 ^ 64 }
+        ensures closed { Closes self.old.output.bytes.items (O.written out.old) (O.written out.new) (Stepped.Ended status) result }
+        ensures over { self.new.over ≡ Some result }
+        ensures empty { self.new.output.bytes.items ≡ [] }
+        ensures same { (self.new.runner ≡ self.old.runner) × (self.new.input ≡ self.old.input) × (self.new.calls ≡ self.old.calls) }
+        ensures taken { self.new.taken ≡ counted result self.old.taken }
+        ensures faults { PutFaults (O.faults out.old) (O.faults out.new) result }
+    {
+        match self.output.flush(out) {
+            Ok(()) => {
+                self.taken += 1;
+                self.over = Some(Stepped::Ended(status));
+                Stepped::Ended(status)
+            }
+            Err(_) => {
+                self.over = Some(Stepped::OutputFault);
+                Stepped::OutputFault
+            }
+        }
+    }
+
+    /// A step is taken, unless putting what was written fails, or memory is short for it.
     #[inline(always)]
     fn after<O: Sink>(&mut self, done: Done, out: &mut O) -> Stepped
         requires counted { self.old.calls ≤ self.old.taken }
@@ -169,20 +198,23 @@ impl Machine {
         ensures over { IsOver self.old self.new result }
         ensures few { length self.new.output.bytes.items < 4096 }
         ensures counted { self.new.calls ≤ self.new.taken }
-        ensures taken { self.new.taken ≡ self.old.taken + 1 }
+        ensures taken { self.new.taken ≡ counted result self.old.taken }
         ensures same { (self.new.runner ≡ self.old.runner) × (self.new.input ≡ self.old.input) }
         ensures faults { PutFaults (O.faults out.old) (O.faults out.new) result }
         ensures no_input { result ≢ Stepped.InputFault }
     {
-        self.taken += 1;
         match done {
-            Done::Going => Stepped::Going,
+            Done::Going => {
+                self.taken += 1;
+                Stepped::Going
+            }
             Done::Entered => {
+                self.taken += 1;
                 self.calls += 1;
                 Stepped::Going
             }
             Done::Wrote(byte) => self.write(byte, out),
-            Done::Ended(status) => self.close(Stepped::Ended(status), out),
+            Done::Ended(status) => self.finish(status, out),
         }
     }
 
@@ -204,7 +236,7 @@ impl Machine {
             → Steps program.now self.old.output.bytes.items self.old.calls self.new (Some left) (O.written out.old) (O.written out.new) output calls result (CStep program.now (stood program.now self.old left output calls)) }
         ensures is_for { IsFor program.now self.new }
         ensures over { IsOver self.old self.new result }
-        ensures taken { result ≡ Stepped.Going → self.new.taken ≡ self.old.taken + 1 }
+        ensures taken { self.new.taken ≡ counted result self.old.taken }
         ensures input { self.new.input ≡ self.old.input }
         ensures faults { PutFaults (O.faults out.old) (O.faults out.new) result }
         ensures no_input { result ≢ Stepped.InputFault }
@@ -229,7 +261,7 @@ impl Machine {
             → Steps program.now self.old.output.bytes.items self.old.calls self.new (Some left) (O.written out.old) (O.written out.new) output calls result (CStep program.now (stood program.now self.old left output calls)) }
         ensures is_for { IsFor program.now self.new }
         ensures over { IsOver self.old self.new result }
-        ensures taken { result ≡ Stepped.Going → self.new.taken ≡ self.old.taken + 1 }
+        ensures taken { self.new.taken ≡ counted result self.old.taken }
         ensures end { self.new.input.over ≡ self.old.input.over }
         ensures empty { self.old.output.bytes.items ≡ [] → self.new.output.bytes.items ≡ [] }
         ensures nothing { self.old.output.bytes.items ≡ [] → result ≢ Stepped.OutputFault }
@@ -262,7 +294,7 @@ impl Machine {
         ensures takes { Takes program.now self.old self.new (I.left input.old) (I.left input.new) (O.written out.old) (O.written out.new) result }
         ensures is_for { IsFor program.now self.new }
         ensures over { IsOver self.old self.new result }
-        ensures taken { result ≡ Stepped.Going → self.new.taken ≡ self.old.taken + 1 }
+        ensures taken { self.new.taken ≡ counted result self.old.taken }
         ensures end { self.new.input.over ≡ true → IsEmpty (I.left input.new) }
         ensures put_first { (input.new ≡ input.old) ⊎ ((self.new.output.bytes.items ≡ []) × (result ≢ Stepped.OutputFault)) }
         ensures put_faults { PutFaults (O.faults out.old) (O.faults out.new) result }
@@ -298,7 +330,7 @@ impl Machine {
         ensures takes { Takes program.now self.old self.new (I.left input.old) (I.left input.new) (O.written out.old) (O.written out.new) result }
         ensures is_for { IsFor program.now self.new }
         ensures over { IsOver self.old self.new result }
-        ensures taken { result ≡ Stepped.Going → self.new.taken ≡ self.old.taken + 1 }
+        ensures taken { self.new.taken ≡ counted result self.old.taken }
         ensures end { self.new.input.over ≡ true → IsEmpty (I.left input.new) }
         ensures untaken { self.old.input.over ≡ true → input.new ≡ input.old }
         ensures put_first { (input.new ≡ input.old) ⊎ ((self.new.output.bytes.items ≡ []) × (result ≢ Stepped.OutputFault)) }
@@ -344,7 +376,7 @@ impl Machine {
         ensures reads_not { result ≡ Some Stepped.Going → ReadsNot self.old.runner.guide self.old.runner.frame }
         ensures is_for { IsFor program.now self.new }
         ensures over { IfSome result (IsOver self.old self.new) }
-        ensures taken { result ≡ Some Stepped.Going → self.new.taken ≡ self.old.taken + 1 }
+        ensures taken { IfSome result (λ stepped. self.new.taken ≡ counted stepped self.old.taken) }
         ensures input { self.new.input ≡ self.old.input }
         ensures faults { IfSome result (PutFaults (O.faults out.old) (O.faults out.new)) }
         ensures no_input { result ≢ Some Stepped.InputFault }
@@ -373,7 +405,7 @@ impl Machine {
         ensures takes { Takes program.now self.old self.new (I.left input.old) (I.left input.new) (O.written out.old) (O.written out.new) result }
         ensures over { IsOver self.old self.new result }
         ensures is_for { IsFor program.now self.new }
-        ensures taken { result ≡ Stepped.Going → self.new.taken ≡ self.old.taken + 1 }
+        ensures taken { self.new.taken ≡ counted result self.old.taken }
         ensures end { self.new.input.over ≡ true → IsEmpty (I.left input.new) }
         ensures untaken { self.old.input.over ≡ true → input.new ≡ input.old }
         ensures put_first { (input.new ≡ input.old) ⊎ ((self.new.output.bytes.items ≡ []) × (result ≢ Stepped.OutputFault)) }
@@ -407,7 +439,7 @@ impl Machine {
         ensures takes { Takes program.now self.old self.new (I.left input.old) (I.left input.new) (O.written out.old) (O.written out.new) result }
         ensures over { IsOver self.old self.new result }
         ensures is_for { IsFor program.now self.new }
-        ensures taken { result ≡ Stepped.Going → self.new.taken ≡ self.old.taken + 1 }
+        ensures taken { self.new.taken ≡ counted result self.old.taken }
         ensures end { self.new.input.over ≡ true → IsEmpty (I.left input.new) }
         ensures untaken { self.old.input.over ≡ true → input.new ≡ input.old }
         ensures put_first { (input.new ≡ input.old) ⊎ ((self.new.output.bytes.items ≡ []) × (result ≢ Stepped.OutputFault)) }
@@ -440,7 +472,8 @@ impl Machine {
         ensures again { (answer : Stepped) → self.old.over ≡ Some answer → (result ≡ answer) × (self.new ≡ self.old) × (input.new ≡ input.old) × (out.new ≡ out.old) }
         ensures over { self.old.over ≡ None → IsOver self.old self.new result }
         ensures is_for { IsFor program.now self.new }
-        ensures taken { self.old.over ≡ None → result ≡ Stepped.Going → self.new.taken ≡ self.old.taken + 1 }
+        // a step is counted where it goes on or ends `main`
+        ensures taken { self.old.over ≡ None → self.new.taken ≡ counted result self.old.taken }
         ensures end { self.new.input.over ≡ true → IsEmpty (I.left input.new) }
         ensures untaken { self.old.input.over ≡ true → input.new ≡ input.old }
         // where input is taken, all that was written is put before
@@ -486,7 +519,7 @@ fn run_from<I: Source, O: Sink>(
     requires is_for { IsFor program.now machine }
     requires begins { Begins program.now machine }
     ensures ran { (bytes : List ℕ) → I.left input.old ≡ Some bytes → Ran program.now bytes (I.left input.new) steps (O.written out.old) (O.written out.new) result }
-    ensures ahead { (bytes : List ℕ) → I.left input.old ≡ Some bytes → TakesFew program.now bytes (I.left input.new) steps }
+    ensures ahead { (bytes : List ℕ) → I.left input.old ≡ Some bytes → TakesFew program.now bytes (I.left input.new) steps result }
     // all that the program writes is put before more input is taken
     ensures put { (bytes : List ℕ) → I.left input.old ≡ Some bytes → PutBeforeTaken program.now bytes (I.left input.new) steps (O.written out.old) (O.written out.new) }
     ensures faults { RunFaults (I.faults input.old) (I.faults input.new) (O.faults out.old) (O.faults out.new) result }
@@ -516,7 +549,7 @@ pub fn run<I: Source, O: Sink>(
     out: &mut O,
 ) -> Ended
     ensures ran { (bytes : List ℕ) → I.left input.old ≡ Some bytes → Ran program.now bytes (I.left input.new) steps (O.written out.old) (O.written out.new) result }
-    ensures ahead { (bytes : List ℕ) → I.left input.old ≡ Some bytes → TakesFew program.now bytes (I.left input.new) steps }
+    ensures ahead { (bytes : List ℕ) → I.left input.old ≡ Some bytes → TakesFew program.now bytes (I.left input.new) steps result }
     // all that the program writes is put before more input is taken
     ensures put { (bytes : List ℕ) → I.left input.old ≡ Some bytes → PutBeforeTaken program.now bytes (I.left input.new) steps (O.written out.old) (O.written out.new) }
     ensures faults { RunFaults (I.faults input.old) (I.faults input.new) (O.faults out.old) (O.faults out.new) result }

@@ -95,7 +95,7 @@ input_failed bytes steps input left' old new (Err (fault.Memory error)) run is =
 -- where the text is run, few bytes are taken ahead
 pub taken_only : {kept : Type 0} (bytes : List ℕ) (steps : ℕ) (input left' old new : Option (List ℕ)) (a : Result e.Ended CTextFault) → IfOk a (IsRun bytes steps input left' old new) → IfErr a (λ f. kept)
     → kept ⊎ TakesOnly bytes steps input left'
-taken_only bytes steps input left' old new (Ok ended) run kept = inr (record { program = run.program; text = run.text; few = run.ahead })
+taken_only bytes steps input left' old new (Ok ended) run kept = inr (record { program = run.program; text = run.text; answer = ended; few = run.ahead })
 taken_only bytes steps input left' old new (Err f) run kept = inl kept
 
 -- and what is written is put before more is taken

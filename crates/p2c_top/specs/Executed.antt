@@ -44,7 +44,8 @@ pub record InputFails (source : List ℕ) (steps : ℕ) (input input' old new : 
 pub record TakesOnly (source : List ℕ) (steps : ℕ) (input input' : Option (List ℕ)) : Type 0 where
   pub program : CProgram
   pub text : CText source program
-  pub few : (left : List ℕ) → input ≡ Some left → TakesFew program left input' steps
+  pub answer : e.Ended
+  pub few : (left : List ℕ) → input ≡ Some left → TakesFew program left input' steps answer
 
 -- the source is a text, and where the input is told all that its program writes was put before more input was taken
 pub record PutsBefore (source : List ℕ) (steps : ℕ) (input input' old new : Option (List ℕ)) : Type 0 where

@@ -10,5 +10,5 @@ pub record IsRun (bytes : List ℕ) (steps : ℕ) (input input' written written'
   pub program : CProgram
   pub text : CText bytes program
   pub ran : (left : List ℕ) → input ≡ Some left → Ran program left input' steps written written' ended
-  pub ahead : (left : List ℕ) → input ≡ Some left → TakesFew program left input' steps
+  pub ahead : (left : List ℕ) → input ≡ Some left → TakesFew program left input' steps ended
   pub put : (left : List ℕ) → input ≡ Some left → PutBeforeTaken program left input' steps written written'

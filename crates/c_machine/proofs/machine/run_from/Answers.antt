@@ -1,6 +1,7 @@
 use Rattle.std.proofs.Common.{◌≡◌, ◌≢◌, ◌+◌, ◌≤◌, ◌∙◌, refl, sym, subst, arith, List, ℕ, Option, Some, Bool, true, false, inl}
 use Rattle.p2c_outside.specs.Counts.{Rose}
-use Rattle.c_machine.specs.Machines.{Ran, RunFaults, HasStatus, ended_by}
+use Rattle.p2c_outside.specs.Told.{Gains}
+use Rattle.c_machine.specs.Machines.{Ran, RunFaults, TakesFew, HasStatus, ended_by}
 use Rattle.c_machine.specs.declared.machine.Stepped.TheVariants as s
 use Rattle.c_machine.specs.declared.machine.Ended as e
 use Rattle.c_machine.specs.declared.machine.Ended.TheVariants as ended
@@ -34,7 +35,7 @@ loop-left-preserved g c =
     let i = c.loop-left.invariant in
     let d = c.dash-dashed.ensures.dashes in
     let told = c.in-Going.ensures in
-    let more : new.taken ≡ mid.taken + 1 = told.taken refl in
+    let more : new.taken ≡ mid.taken + 1 = told.taken in
     let w = g.O.Sink.written c.args.out.now in
     let w1 = g.O.Sink.written c.loop-left.out in
     let left = g.I.Source.left c.loop-left.input in
@@ -77,7 +78,9 @@ returns-in_default g c =
       ran = λ bytes is.
           subst (λ (r : e.Ended). Ran p bytes left1 c.args.steps w w2 r) (sym last)
           (ends_run p bytes old new left0 left1 w w1 w2 a (stands bytes is) told.takes told.end c.args.steps within n);
-      ahead = λ bytes is. takes_few p bytes old new left0 left1 w w1 w2 a (stands bytes is) told.takes told.end c.args.steps within;
+      ahead = λ bytes is.
+          subst (λ (r : e.Ended). TakesFew p bytes left1 c.args.steps r) (sym last)
+          (takes_few p bytes old new left0 left1 w w1 w2 a (stands bytes is) told.takes told.end c.args.steps within n);
       put = λ bytes is. put_before_taken p bytes old new left0 left1 w w1 w2 a (stands bytes is) told.takes c.args.steps within (i.put bytes is);
       faults =
           subst (λ (t : ℕ). RunFaults t (g.I.Source.faults c.next_step.new.input) (g.O.Sink.faults c.args.out.now) (g.O.Sink.faults c.next_step.new.out) c.last_answer.result) i.no_input
@@ -107,8 +110,14 @@ returns-clause-ahead g c = λ bytes is.
     let p = c.args.program.now in
     let old = c.loop-left.machine in
     let i = c.loop-left.invariant in
-    let within : old.taken ≤ c.args.steps = omega (arith, i.taken) in
-    last_few p bytes old (g.I.Source.left c.loop-left.input) (g.O.Sink.written c.args.out.now) (g.O.Sink.written c.loop-left.out) (g.O.Sink.written c.spend.new.out) (i.along bytes is) i.end c.args.steps within (i.is_for.ahead i.going)
+    let left = g.I.Source.left c.loop-left.input in
+    let w1 = g.O.Sink.written c.loop-left.out in
+    let w2 = g.O.Sink.written c.spend.new.out in
+    let done : old.taken ≡ c.args.steps = omega (arith, i.taken, c.loop-left-test.false) in
+    let put : Type 0 = Gains w1 w2 old.output.bytes.items in
+    let same : Type 0 = g.O.Sink.faults c.spend.new.out ≡ g.O.Sink.faults c.loop-left.out in
+    subst (λ (n : ℕ). TakesFew p bytes left n c.spend.result) done
+    (last_few p bytes old left (g.O.Sink.written c.args.out.now) w1 w2 (i.along bytes is) i.end put same c.spend.result c.spend.ensures.whole (i.is_for.ahead i.going))
 
 pub returns-clause-put : goal.returns-clause-put
 returns-clause-put g c = λ bytes is.

@@ -54,5 +54,5 @@ returns-clause-act c = λ input output calls.
     let h = made p v st rest c.args.place.now c.args.of.now c.store.new.self new in
     let block : c.in_ok-block.block ≡ record { of = c.args.of.now; tree = fresh false p.declarations c.args.of.now; heap = true } =
     c.in_ok-block.ensures ∙ ap (λ ds. record { of = c.args.of.now; tree = fresh false ds c.args.of.now; heap = true }) c.declared-declared.ensures in
-    let pushed = c.in_ok-push.ensures ∙ ap (λ (b : Block). c.store.new.self ++ Some b ∷ []) block in
+    let pushed = c.in_ok-push.ensures.ok ∙ ap (λ (b : Block). c.store.new.self ++ Some b ∷ []) block in
     ap (λ (m : Blocks). Onward (record (to_do st rest) { blocks = m })) pushed ∙ sym h
