@@ -7,6 +7,7 @@ ghost use Rattle.expr_parser.specs.Constants as spec;
 
 use crate::leaves::{bytes, optional_sign, value};
 use crate::operators::{after, is_sign};
+use crate::rows::{row_of, with_item};
 use crate::source::{Source, span_between};
 use crate::step::{expect, identifier, is, is_identifier, is_number, is_text, same};
 use dialect_lexer::{Symbol, Token};
@@ -236,11 +237,9 @@ fn next_case_label<'t>(
 ) -> Result<(CaseLabels, &'t [Token]), ParseError>
     ensures { Parses source.now tokens.now result (spec.next_case_label source.now.dialect source.now.end all) }
 {
-    let mut all = all;
     let rest = expect(source, tokens, Symbol::Comma)?;
     let (item, rest) = case_label(source, rest)?;
-    all.push(item)?;
-    Ok((all, rest))
+    Ok((with_item(all, item)?, rest))
 }
 
 /// The labels after the first.
@@ -273,7 +272,6 @@ pub fn case_labels<'t>(
     ensures { Parses source.now tokens.now result (spec.case_labels source.now.dialect source.now.end) }
 {
     let (item, rest) = case_label(source, tokens)?;
-    let mut first = Items::new(source.alloc);
-    first.push(item)?;
+    let first = row_of(source.alloc, item)?;
     more_case_labels(source, rest, first)
 }

@@ -11,6 +11,7 @@ use crate::leaves::{
     field, follow, is_program, is_selector, nil, number, optional_sign, program_arg, text,
 };
 use crate::operators::{adding, is_adding, is_multiplying, is_relation, multiplying, relation};
+use crate::rows::{row_of, with_item};
 use crate::source::{Source, span_between};
 use crate::step::{
     expect, expect_word, identifier, is, is_identifier, is_number, is_text, is_word, same,
@@ -53,11 +54,9 @@ fn next_expr<'t>(
 ) -> Result<(Items<Expr>, &'t [Token]), ParseError>
     ensures { Parses source.now tokens.now result (places.next_expr (expressions.expr source.now.dialect source.now.end depth) all) }
 {
-    let mut all = all;
     let rest = expect(source, tokens, Symbol::Comma)?;
     let (item, rest) = expr(source, rest, depth)?;
-    all.push(item)?;
-    Ok((all, rest))
+    Ok((with_item(all, item)?, rest))
 }
 
 /// The expressions after the first.
@@ -94,8 +93,7 @@ fn exprs<'t>(
     ensures { Parses source.now tokens.now result (places.exprs (expressions.expr source.now.dialect source.now.end depth)) }
 {
     let (item, rest) = expr(source, tokens, depth)?;
-    let mut first = Items::new(source.alloc);
-    first.push(item)?;
+    let first = row_of(source.alloc, item)?;
     more_exprs(source, rest, depth, first)
 }
 
@@ -145,10 +143,8 @@ fn next_selector<'t>(
 ) -> Result<(Items<Selector>, &'t [Token]), ParseError>
     ensures { Parses source.now tokens.now result (places.next_selector source.now.end (expressions.expr source.now.dialect source.now.end depth) all) }
 {
-    let mut all = all;
     let (item, rest) = selected(source, tokens, depth)?;
-    all.push(item)?;
-    Ok((all, rest))
+    Ok((with_item(all, item)?, rest))
 }
 
 /// Selectors, as many as there are.
@@ -261,11 +257,9 @@ fn next_arg<'t>(
 ) -> Result<(Items<Arg>, &'t [Token]), ParseError>
     ensures { Parses source.now tokens.now result (places.next_arg source.now.dialect source.now.end (expressions.expr source.now.dialect source.now.end depth) all) }
 {
-    let mut all = all;
     let rest = expect(source, tokens, Symbol::Comma)?;
     let (item, rest) = one_arg(source, rest, depth)?;
-    all.push(item)?;
-    Ok((all, rest))
+    Ok((with_item(all, item)?, rest))
 }
 
 /// The arguments after the first.
@@ -302,8 +296,7 @@ fn listed_args<'t>(
     ensures { Parses source.now tokens.now result (places.listed_args source.now.dialect source.now.end (expressions.expr source.now.dialect source.now.end depth)) }
 {
     let (item, rest) = one_arg(source, tokens, depth)?;
-    let mut first = Items::new(source.alloc);
-    first.push(item)?;
+    let first = row_of(source.alloc, item)?;
     more_args(source, rest, depth, first)
 }
 
@@ -385,8 +378,8 @@ fn group<'t>(
 {
     let rest = expect(source, tokens, Symbol::Open)?;
     let (inner, rest) = expr(source, rest, depth)?;
-    let rest = expect(source, rest, Symbol::Close)?;
     let inner = Boxed::new(source.alloc, inner)?;
+    let rest = expect(source, rest, Symbol::Close)?;
     let span = span_between(source, tokens, rest);
     Ok((Factor::Group { inner, span }, rest))
 }
@@ -434,11 +427,9 @@ fn next_elem<'t>(
 ) -> Result<(Items<Elem>, &'t [Token]), ParseError>
     ensures { Parses source.now tokens.now result (factors.next_elem source.now.end (expressions.expr source.now.dialect source.now.end depth) all) }
 {
-    let mut all = all;
     let rest = expect(source, tokens, Symbol::Comma)?;
     let (item, rest) = elem(source, rest, depth)?;
-    all.push(item)?;
-    Ok((all, rest))
+    Ok((with_item(all, item)?, rest))
 }
 
 /// The elements after the first.
@@ -475,8 +466,7 @@ fn some_elems<'t>(
     ensures { Parses source.now tokens.now result (factors.some_elems source.now.end (expressions.expr source.now.dialect source.now.end depth)) }
 {
     let (item, rest) = elem(source, tokens, depth)?;
-    let mut first = Items::new(source.alloc);
-    first.push(item)?;
+    let first = row_of(source.alloc, item)?;
     more_elems(source, rest, depth, first)
 }
 
@@ -568,14 +558,13 @@ fn next_factor<'t>(
 ) -> Result<(Items<MultipliedFactor>, &'t [Token]), ParseError>
     ensures { Parses source.now tokens.now result (expressions.next_factor (expressions.factor source.now.dialect source.now.end depth) all) }
 {
-    let mut all = all;
     let (operator, rest) = multiplying(source, tokens)?;
     let (item, rest) = factor(source, rest, depth)?;
-    all.push(MultipliedFactor {
+    let item = MultipliedFactor {
         operator,
         factor: item,
-    })?;
-    Ok((all, rest))
+    };
+    Ok((with_item(all, item)?, rest))
 }
 
 /// The factors after the first.
@@ -634,14 +623,13 @@ fn next_term<'t>(
 ) -> Result<(Items<AddedTerm>, &'t [Token]), ParseError>
     ensures { Parses source.now tokens.now result (expressions.next_term source.now.end (expressions.factor source.now.dialect source.now.end depth) all) }
 {
-    let mut all = all;
     let (operator, rest) = adding(source, tokens)?;
     let (item, rest) = term(source, rest, depth)?;
-    all.push(AddedTerm {
+    let item = AddedTerm {
         operator,
         term: item,
-    })?;
-    Ok((all, rest))
+    };
+    Ok((with_item(all, item)?, rest))
 }
 
 /// The terms after the first.
