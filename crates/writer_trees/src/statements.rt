@@ -15,7 +15,7 @@ use tree_lists::Boxed;
 const LONGEST_TEXT: usize = 4_194_304;
 
 /// What a statement writes.
-#[derive(Clone, Copy, Debug)]
+#[derive(Clone, Copy)]
 pub enum Found<'a> {
     Nothing,
     LineEnd,
