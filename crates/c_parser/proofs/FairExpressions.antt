@@ -23,6 +23,7 @@ use Rattle.c_parser.specs.Depth.{expr_depth, place_depth}
 use Rattle.c_parser.proofs.FairTokens.{FairC, mark_fair, word_fair, name_fair, number_is, number_most, unary_is, binary_is, a_name, a_name_is}
 use Rattle.c_parser.proofs.Holes.{Law, begins_by, inner, in_first, in_second, in_later, in_after, ExprHole, PlaceHole, CastHole, read_hole, may_begin}
 use Rattle.c_parser.proofs.FairTypes.{cast_type_fair}
+use Rattle.c_parser.proofs.Closed.{fair_closed}
 
 -- ---- what is read
 
@@ -73,9 +74,9 @@ module _ (all : List Token) (formed : AreTokens all) (d : ℕ) (child : Parser T
   unfolding pointee
   pointee_fair level front s left law hole at =
       mark_fair mark.Star s at (let f = hole (Pointee Null) tt in begins_by at f (Sign mark.Star ∷ spell_expr Null (Sign mark.Close ∷ f.more)) refl) (λ _ r at1.
-      fair_then (good level (λ u. front (Sign mark.Open ∷ Sign mark.Star ∷ u)) r left at1 (pointee_hole level law hole)) (λ a r (at2, isa, deep).
+      fair_closed child r (λ a s. Ok (Pointee a, s)) (fair_then (good level (λ u. front (Sign mark.Open ∷ Sign mark.Star ∷ u)) r left at1 (pointee_hole level law hole)) (λ a r (at2, isa, deep).
       mark_fair mark.Close r at2 (let f = hole (Pointee a) isa in begins_by at2 f (Sign mark.Close ∷ f.more) refl) (λ _ r at3.
-      reads (Pointee a) r (at3, isa, deep))))
+      reads (Pointee a) r (at3, isa, deep)))))
 
   variable_fair : (level : ℕ) (front : List Token → List Token) (s : List Token) → PlaceHole level front → At all front s → FairC all (ReadPlace all front d) (variable s)
   unfolding variable
@@ -126,9 +127,9 @@ module _ (all : List Token) (formed : AreTokens all) (d : ℕ) (child : Parser T
   unary_fair level front s left law hole at =
       fair_spelled unaries (λ op. Sign (unary_mark op)) unary_is s at
       (let f = hole (Unary unary_.Minus Null) tt in begins_by at f (Sign mark.Minus ∷ spell_expr Null (Sign mark.Close ∷ f.more)) refl) (λ op r _ at1.
-      fair_then (good (suc level) (λ u. front (Sign mark.Open ∷ Sign (unary_mark op) ∷ u)) r (omega arith) at1 (unary_hole level op law hole)) (λ a r (at2, is, deep).
+      fair_closed child r (λ a s. Ok (Unary op a, s)) (fair_then (good (suc level) (λ u. front (Sign mark.Open ∷ Sign (unary_mark op) ∷ u)) r (omega arith) at1 (unary_hole level op law hole)) (λ a r (at2, is, deep).
       mark_fair mark.Close r at2 (let f = hole (Unary op a) is in begins_by at2 f (Sign mark.Close ∷ f.more) refl) (λ _ r at3.
-      reads (Unary op a) r (at3, is, omega arith))))
+      reads (Unary op a) r (at3, is, omega arith)))))
 
   left_hole : {front : List Token → List Token} (level : ℕ) → Law front → ExprHole level front → ExprHole (suc level) (λ u. front (Sign mark.Open ∷ u))
   left_hole level law hole e is =
@@ -148,9 +149,9 @@ module _ (all : List Token) (formed : AreTokens all) (d : ℕ) (child : Parser T
       fair_then (good (suc level) (λ u. front (Sign mark.Open ∷ u)) s (omega arith) at (left_hole level law hole)) (λ a r (at1, isa, deep).
       fair_spelled binaries (λ op. Sign (binary_mark op)) binary_is r at1
       (let f = hole (Binary binary_.Add a Null) (isa, tt) in begins_by at1 f (Sign mark.Plus ∷ spell_expr Null (Sign mark.Close ∷ f.more)) refl) (λ op r _ at2.
-      fair_then (good (suc level) (λ u. front (Sign mark.Open ∷ spell_expr a (Sign (binary_mark op) ∷ u))) r (omega arith) at2 (right_hole level op a law isa hole)) (λ b r (at3, isb, deep').
+      fair_closed child r (λ b s. Ok (Binary op a b, s)) (fair_then (good (suc level) (λ u. front (Sign mark.Open ∷ spell_expr a (Sign (binary_mark op) ∷ u))) r (omega arith) at2 (right_hole level op a law isa hole)) (λ b r (at3, isb, deep').
       mark_fair mark.Close r at3 (let f = hole (Binary op a b) (isa, isb) in begins_by at3 f (Sign mark.Close ∷ f.more) refl) (λ _ r at4.
-      reads (Binary op a b) r (at4, (isa, isb), grind arith)))))
+      reads (Binary op a b) r (at4, (isa, isb), grind arith))))))
 
   cast_type_hole : {front : List Token → List Token} (level : ℕ) → Law front → ExprHole level front → CastHole (λ u. front (Sign mark.Open ∷ Sign mark.Open ∷ u))
   cast_type_hole level law hole to is =
@@ -170,9 +171,9 @@ module _ (all : List Token) (formed : AreTokens all) (d : ℕ) (child : Parser T
       mark_fair mark.Open s at (let f = hole (Cast cast_.Int Null) (tt, tt) in begins_by at f (Sign mark.Open ∷ spell_cast cast_.Int (Sign mark.Close ∷ spell_expr Null (Sign mark.Close ∷ f.more))) refl) (λ _ r at1.
       fair_then (cast_type_fair all formed (λ u. front (Sign mark.Open ∷ Sign mark.Open ∷ u)) r at1 (cast_type_hole level law hole)) (λ to r (at2, ist).
       mark_fair mark.Close r at2 (let f = hole (Cast to Null) (ist, tt) in begins_by at2 f (Sign mark.Close ∷ spell_expr Null (Sign mark.Close ∷ f.more)) refl) (λ _ r at3.
-      fair_then (good (suc level) (λ u. front (Sign mark.Open ∷ Sign mark.Open ∷ spell_cast to (Sign mark.Close ∷ u))) r (omega arith) at3 (cast_hole level to law ist hole)) (λ a r (at4, isa, deep).
+      fair_closed child r (λ a s. Ok (Cast to a, s)) (fair_then (good (suc level) (λ u. front (Sign mark.Open ∷ Sign mark.Open ∷ spell_cast to (Sign mark.Close ∷ u))) r (omega arith) at3 (cast_hole level to law ist hole)) (λ a r (at4, isa, deep).
       mark_fair mark.Close r at4 (let f = hole (Cast to a) (ist, isa) in begins_by at4 f (Sign mark.Close ∷ f.more) refl) (λ _ r at5.
-      reads (Cast to a) r (at5, (ist, isa), omega arith))))))
+      reads (Cast to a) r (at5, (ist, isa), omega arith)))))))
 
   opened_fair : Opened (opened child)
   unfolding opened

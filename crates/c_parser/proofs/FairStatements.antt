@@ -1,5 +1,5 @@
 -- Statements that are read.
-use Rattle.std.proofs.Common.{◌≡◌, ℕ, zero, suc, ◌+◌, ◌≤◌, List, [], ◌∷◌, ◌++◌, length, Option, Some, None, refl, sym, ap, subst, ◌∙◌, arith}
+use Rattle.std.proofs.Common.{◌≡◌, ℕ, zero, suc, ◌+◌, ◌≤◌, List, [], ◌∷◌, ◌++◌, length, Option, Some, None, Ok, refl, sym, ap, subst, ◌∙◌, arith}
 use Rattle.std.specs.List.{AllByRecursion}
 use Rattle.std.specs.Option.{IfSome}
 use Rattle.c_tree.specs.Tree.{Int, Expr, Null, Place, Variable, Pointee, Member, Index, Statement, Assign, Call, Malloc, Free, GetChar, PutChar, If, IfElse, While, Goto, Label, Return, Body, Empty, body_of}
@@ -16,17 +16,18 @@ use Rattle.c_grammar.specs.Types.{Known}
 use Rattle.c_grammar.specs.Demands.{Names, after, same, expr_demands, callee_demands, statement_demands, body_demands, listed_demands, own_labels, labels_of, program_demands}
 use Rattle.c_grammar.specs.Text.{Begins, MayBegin}
 use Rattle.c_grammar.proofs.Spelled.{count_more, next_follow, all_follow, expr_follow, place_follow, into_follow, callee_follow, body_follow}
-use Rattle.token_parsing.specs.Parser.{Parser, begins}
+use Rattle.token_parsing.specs.Parser.{Parser, and_then, begins}
 use Rattle.token_parsing.proofs.Fair.{At, reads, at_same, fair_then, fair_either, fair_repeat, fair_so, fair_refuse, fair_stop}
-use Rattle.c_parser.specs.Classes.{names, marks, words}
-use Rattle.c_parser.specs.Expressions.{expr}
-use Rattle.c_parser.specs.Statements.{next_argument, some_arguments, listed_arguments, call, indirect, callee, calls, malloc_opening, malloc, get_char, value, call_into, assigned, callee_of, label_of, called, labelled, placed, free, put_char, goto, returned, return_with, no_brace, next_statement, statements, body, tested, otherwise, conditional, while_loop, simple, statement_by, statement}
+use Rattle.c_parser.specs.Classes.{names, marks, words, expect}
+use Rattle.c_parser.specs.Expressions.{closed, expr}
+use Rattle.c_parser.specs.Statements.{next_argument, some_arguments, listed_arguments, call, indirect, callee, calls, malloc_opening, malloc, get_char, value, call_into, assigned, callee_of, label_of, called, labelled, placed, free, put_char, goto, returned, return_with, no_brace, next_statement, statements, body, enclosed, otherwise, conditional, while_loop, simple, statement_by, statement}
 use Rattle.c_parser.specs.Depth.{expr_depth, place_depth, into_depth, callee_depth, arguments_depth, value_depth, statement_depth, body_depth}
 use Rattle.c_parser.proofs.FairTokens.{FairC, mark_fair, word_fair, name_fair, a_name, a_name_is}
 use Rattle.c_parser.proofs.FairTypes.{type_fair}
 use Rattle.c_parser.proofs.FairExpressions.{ReadPlace, ExprFair, place_fair, expr_fair}
 use Rattle.c_parser.proofs.Holes.{Law, Among, Filled, begins_by, inner, in_first, in_second, in_later, in_after, level_here, ExprHole, PlaceHole, TypeHole}
 use Rattle.c_parser.proofs.Pushed.{all_pushed, each_pushed, body_pushed, is_body_pushed, body_depth_pushed, arguments_depth_pushed, all_last, body_last}
+use Rattle.c_parser.proofs.Closed.{fair_closed, fair_arguments}
 
 -- ---- holes
 
@@ -130,12 +131,12 @@ module _ (all : List Token) (formed : AreTokens all) (d : ℕ) (child : Parser T
       → At all (λ u. front (spell_into into (spell_callee c u))) s → IfSome into IsPlace → IsCallee c → into_depth into ≤ d → callee_depth c ≤ d → FairC all (ReadStatement all front (suc d)) (call child into c s)
   unfolding call
   call_fair level front into c s left law hole at isi isc deep deep' =
-      mark_fair mark.Open s at (let f = hole (Call into c []) (isi, isc, tt) in begins_by at f (Sign mark.Open ∷ Sign mark.Close ∷ Sign mark.Semicolon ∷ f.more) refl) (λ _ r at1.
+      fair_arguments child s (λ items s. and_then (expect mark.Semicolon s) (λ _ s. Ok (Call into c items, s))) (mark_fair mark.Open s at (let f = hole (Call into c []) (isi, isc, tt) in begins_by at f (Sign mark.Open ∷ Sign mark.Close ∷ Sign mark.Semicolon ∷ f.more) refl) (λ _ r at1.
       fair_then (listed_arguments_fair (suc level) (λ u. front (spell_into into (spell_callee c (Sign mark.Open ∷ u)))) r (omega arith) at1 (arguments_hole level into c law isi isc hole)) (λ items r (at2, each, deep'').
       let f = hole (Call into c items) (isi, isc, each) in
       mark_fair mark.Close r at2 (begins_by at2 f (Sign mark.Close ∷ Sign mark.Semicolon ∷ f.more) refl) (λ _ r at3.
       mark_fair mark.Semicolon r at3 (begins_by at3 f (Sign mark.Semicolon ∷ f.more) refl) (λ _ r at4.
-      reads (Call into c items) r (at4, (isi, isc, each), grind arith)))))
+      reads (Call into c items) r (at4, (isi, isc, each), grind arith))))))
 
   indirect_hole : {front : List Token → List Token} (level : ℕ) → Law front → CalleeHole level front → ExprHole level (λ u. front (Sign mark.Open ∷ Sign mark.Star ∷ u))
   indirect_hole level law hole e is = let f = hole (Indirect e) is in inner law (λ u. Sign mark.Open ∷ Sign mark.Star ∷ u) 2 refl f (Sign mark.Close ∷ f.more) refl (λ n l h k. in_after 2 (h k))
@@ -147,9 +148,9 @@ module _ (all : List Token) (formed : AreTokens all) (d : ℕ) (child : Parser T
       fair_either (begins names s) (λ _. name_fair formed s at start (λ n r is at1. reads (Direct n) r (at1, is, grind arith)))
       (λ _. mark_fair mark.Open s at start (λ _ r at1.
       mark_fair mark.Star r at1 (let g = hole (Indirect Null) tt in begins_by at1 g (Sign mark.Star ∷ spell_expr Null (Sign mark.Close ∷ g.more)) refl) (λ _ r at2.
-      fair_then (good level (λ u. front (Sign mark.Open ∷ Sign mark.Star ∷ u)) r left at2 (indirect_hole level at.law hole)) (λ a r (at3, is, deep).
+      fair_closed child r (λ a s. Ok (Indirect a, s)) (fair_then (good level (λ u. front (Sign mark.Open ∷ Sign mark.Star ∷ u)) r left at2 (indirect_hole level at.law hole)) (λ a r (at3, is, deep).
       mark_fair mark.Close r at3 (let g = hole (Indirect a) is in begins_by at3 g (Sign mark.Close ∷ g.more) refl) (λ _ r at4.
-      reads (Indirect a) r (at4, is, deep))))))
+      reads (Indirect a) r (at4, is, deep)))))))
 
   -- ---- assignments
 
@@ -270,16 +271,22 @@ module _ (all : List Token) (formed : AreTokens all) (d : ℕ) (child : Parser T
   free_hole level law hole e is =
       let f = hole (Free e) is in inner law (λ u. Quoted word.Free ∷ Sign mark.Open ∷ u) 2 refl f (Sign mark.Close ∷ Sign mark.Semicolon ∷ f.more) refl (λ n l h k reached above. in_later (in_after 2 (h k)))
 
+  enclosed_fair : (level : ℕ) (front : List Token → List Token) (s : List Token) → level + d ≡ 2401 → At all front s → Begins (front []) → ExprHole level (λ u. front (Sign mark.Open ∷ u))
+      → FairC all (λ a r. At all (λ u. front (Sign mark.Open ∷ spell_expr a (Sign mark.Close ∷ u))) r × IsExpr a × (expr_depth a ≤ d)) (enclosed child s)
+  unfolding enclosed closed
+  enclosed_fair level front s left at begun hole =
+      mark_fair mark.Open s at begun (λ _ r at1.
+      fair_then (good level (λ u. front (Sign mark.Open ∷ u)) r left at1 hole) (λ a r (at2, is, deep).
+      mark_fair mark.Close r at2 (let f = hole a is in begins_by at2 f f.more refl) (λ _ r at3. reads a r (at3, is, deep))))
+
   free_fair : Whole (free child)
   unfolding free
   free_fair level front s left at hole =
       word_fair word.Free s at (start level at hole) (λ _ r at1.
-      mark_fair mark.Open r at1 (let f = hole (Free Null) tt in begins_by at1 f (Sign mark.Open ∷ spell_expr Null (Sign mark.Close ∷ Sign mark.Semicolon ∷ f.more)) refl) (λ _ r at2.
-      fair_then (good (suc level) (λ u. front (Quoted word.Free ∷ Sign mark.Open ∷ u)) r (omega arith) at2 (free_hole level at.law hole)) (λ a r (at3, is, deep).
-      let f = hole (Free a) is in
-      mark_fair mark.Close r at3 (begins_by at3 f (Sign mark.Close ∷ Sign mark.Semicolon ∷ f.more) refl) (λ _ r at4.
-      mark_fair mark.Semicolon r at4 (begins_by at4 f (Sign mark.Semicolon ∷ f.more) refl) (λ _ r at5.
-      reads (Free a) r (at5, is, omega arith))))))
+      fair_then (enclosed_fair (suc level) (λ u. front (Quoted word.Free ∷ u)) r (omega arith) at1
+      (let f = hole (Free Null) tt in begins_by at1 f (Sign mark.Open ∷ spell_expr Null (Sign mark.Close ∷ Sign mark.Semicolon ∷ f.more)) refl) (free_hole level at.law hole)) (λ a r (at2, is, deep).
+      mark_fair mark.Semicolon r at2 (let f = hole (Free a) is in begins_by at2 f (Sign mark.Semicolon ∷ f.more) refl) (λ _ r at3.
+      reads (Free a) r (at3, is, omega arith))))
 
   put_hole : {front : List Token → List Token} (level : ℕ) → Law front → StatementHole level front → ExprHole (suc level) (λ u. front (Quoted word.PutChar ∷ Sign mark.Open ∷ u))
   put_hole level law hole e is =
@@ -289,12 +296,10 @@ module _ (all : List Token) (formed : AreTokens all) (d : ℕ) (child : Parser T
   unfolding put_char
   put_char_fair level front s left at hole =
       word_fair word.PutChar s at (start level at hole) (λ _ r at1.
-      mark_fair mark.Open r at1 (let f = hole (PutChar Null) tt in begins_by at1 f (Sign mark.Open ∷ spell_expr Null (Sign mark.Close ∷ Sign mark.Semicolon ∷ f.more)) refl) (λ _ r at2.
-      fair_then (good (suc level) (λ u. front (Quoted word.PutChar ∷ Sign mark.Open ∷ u)) r (omega arith) at2 (put_hole level at.law hole)) (λ a r (at3, is, deep).
-      let f = hole (PutChar a) is in
-      mark_fair mark.Close r at3 (begins_by at3 f (Sign mark.Close ∷ Sign mark.Semicolon ∷ f.more) refl) (λ _ r at4.
-      mark_fair mark.Semicolon r at4 (begins_by at4 f (Sign mark.Semicolon ∷ f.more) refl) (λ _ r at5.
-      reads (PutChar a) r (at5, is, omega arith))))))
+      fair_then (enclosed_fair (suc level) (λ u. front (Quoted word.PutChar ∷ u)) r (omega arith) at1
+      (let f = hole (PutChar Null) tt in begins_by at1 f (Sign mark.Open ∷ spell_expr Null (Sign mark.Close ∷ Sign mark.Semicolon ∷ f.more)) refl) (put_hole level at.law hole)) (λ a r (at2, is, deep).
+      mark_fair mark.Semicolon r at2 (let f = hole (PutChar a) is in begins_by at2 f (Sign mark.Semicolon ∷ f.more) refl) (λ _ r at3.
+      reads (PutChar a) r (at3, is, omega arith))))
 
   goto_fair : Whole goto
   unfolding goto
@@ -359,14 +364,6 @@ module _ (all : List Token) (formed : AreTokens all) (d : ℕ) (child : Parser T
         fair_then (statements_fair level (λ u. front (Sign mark.OpenBrace ∷ u)) r left at1 hole) (λ items r (at2, is, deep).
         mark_fair mark.CloseBrace r at2 (let f = hole (body_of items) is in begins_by at2 f f.more refl) (λ _ r at3. reads items r (at3, is, deep))))
 
-    test_fair : (level : ℕ) (front : List Token → List Token) (s : List Token) → level + d ≡ 2401 → At all front s → Begins (front []) → ExprHole level (λ u. front (Sign mark.Open ∷ u))
-        → FairC all (λ a r. At all (λ u. front (Sign mark.Open ∷ spell_expr a (Sign mark.Close ∷ u))) r × IsExpr a × (expr_depth a ≤ d)) (tested child s)
-    unfolding tested
-    test_fair level front s left at begun hole =
-        mark_fair mark.Open s at begun (λ _ r at1.
-        fair_then (good level (λ u. front (Sign mark.Open ∷ u)) r left at1 hole) (λ a r (at2, is, deep).
-        mark_fair mark.Close r at2 (let f = hole a is in begins_by at2 f f.more refl) (λ _ r at3. reads a r (at3, is, deep))))
-
     -- up to the body
     abbrev headed : QuotedWord → Expr → List Token → List Token
     headed w a u = Quoted w ∷ Sign mark.Open ∷ spell_expr a (Sign mark.Close ∷ u)
@@ -410,7 +407,7 @@ module _ (all : List Token) (formed : AreTokens all) (d : ℕ) (child : Parser T
     conditional_fair level front s left at hole =
         let f = hole (If Null Empty) (tt, tt) in
         word_fair word.If s at (start level at hole) (λ _ r at1.
-        fair_then (test_fair (suc level) (λ u. front (Quoted word.If ∷ u)) r (omega arith) at1
+        fair_then (enclosed_fair (suc level) (λ u. front (Quoted word.If ∷ u)) r (omega arith) at1
         (begins_by at1 f (Sign mark.Open ∷ spell_expr Null (Sign mark.Close ∷ Sign mark.OpenBrace ∷ Sign mark.CloseBrace ∷ f.more)) refl) (if_test_hole level at.law hole)) (λ a r (at2, isa, deep).
         let g = hole (If a Empty) (isa, tt) in
         fair_then (body_fair (suc level) (λ u. front (headed word.If a u)) r (omega arith) at2 (begins_by at2 g (Sign mark.OpenBrace ∷ Sign mark.CloseBrace ∷ g.more) refl) (if_body_hole level a at.law isa hole)) (λ items r (at3, isb, deep').
@@ -433,7 +430,7 @@ module _ (all : List Token) (formed : AreTokens all) (d : ℕ) (child : Parser T
     while_fair level front s left at hole =
         let f = hole (While Null Empty) (tt, tt) in
         word_fair word.While s at (start level at hole) (λ _ r at1.
-        fair_then (test_fair (suc level) (λ u. front (Quoted word.While ∷ u)) r (omega arith) at1
+        fair_then (enclosed_fair (suc level) (λ u. front (Quoted word.While ∷ u)) r (omega arith) at1
         (begins_by at1 f (Sign mark.Open ∷ spell_expr Null (Sign mark.Close ∷ Sign mark.OpenBrace ∷ Sign mark.CloseBrace ∷ f.more)) refl) (while_test_hole level at.law hole)) (λ a r (at2, isa, deep).
         let g = hole (While a Empty) (isa, tt) in
         fair_then (body_fair (suc level) (λ u. front (headed word.While a u)) r (omega arith) at2 (begins_by at2 g (Sign mark.OpenBrace ∷ Sign mark.CloseBrace ∷ g.more) refl) (while_body_hole level a at.law isa hole)) (λ items r (at3, isb, deep').

@@ -1,4 +1,5 @@
 pub mod Clauses
+pub mod Closed
 pub mod Digits
 pub mod FairExpressions
 pub mod FairPrograms

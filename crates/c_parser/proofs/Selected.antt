@@ -1,5 +1,5 @@
 -- What is selected of a place is no callee and no label.
-use Rattle.std.proofs.Common.{◌≡◌, ◌≢◌, List, [], ◌∷◌, Option, None, refl}
+use Rattle.std.proofs.Common.{◌≡◌, ◌≢◌, List, [], ◌∷◌, None, refl}
 use Rattle.c_tree.specs.Tree.{Place}
 use Rattle.c_tree.specs.expressions.View.{select, selected}
 use Rattle.c_tree.specs.declared.expr.CSelector.{CSelector}

@@ -14,9 +14,10 @@ use Rattle.c_parser.specs.declared.program.Parts.{Parts}
 use Rattle.c_parser.specs.Classes.{names, words, marks, unaries, expect}
 use Rattle.c_parser.specs.Types.{struct_type, byte_type, void_pointer, base_type, pointer_to, stars, object_type, after_void, result_type, struct_pointer, void_cast, cast_type}
 use Rattle.c_parser.specs.Expressions.{number, word_number, null, member, element, selected, begins_selector, selectors, pointee, variable, base_place, place, read_pointee, address, unary, binary, cast, begins_cast, opened, read_variable, expr_by, expr}
-use Rattle.c_parser.specs.Statements.{next_argument, some_arguments, listed_arguments, call, indirect, callee, calls, malloc_opening, malloc, get_char, value, call_into, assigned, callee_of, label_of, called, labelled, placed, free, put_char, goto, returned, return_with, no_brace, next_statement, statements, body, tested, otherwise, conditional, while_loop, simple, statement_by, statement}
+use Rattle.c_parser.specs.Statements.{next_argument, some_arguments, listed_arguments, arguments, call, indirect, callee, calls, malloc_opening, malloc, get_char, value, call_into, assigned, callee_of, label_of, called, labelled, placed, free, put_char, goto, returned, return_with, no_brace, next_statement, statements, body, otherwise, conditional, while_loop, simple, statement_by, statement}
 use Rattle.c_parser.specs.Programs as programs
 use Rattle.c_parser.specs.Programs.{array_length, next_member, members, next_type, types_after, types, typedef_of, pointer_name, typedef, next_parameter, parameters_after, parameters, begins_local, next_local, locals, block, no_functions, no_prototypes, no_globals, no_declarations, when, forward, structure, type_definition, global, prototype, function, after_parameters, after_name, after_result, after_struct_name, after_struct, next_part, no_int, no_parts, parts, main, end_of, program}
+use Rattle.c_parser.proofs.Closed.{closed_shrinks, enclosed_shrinks}
 
 -- ---- types
 
@@ -73,7 +74,7 @@ module _ (child : Parser Token Expr) (h : Shrinks child) where
 
   pub pointee_shrinks : Shrinks (pointee child)
   unfolding pointee
-  pointee_shrinks = then_shrinks (one_shrinks _) (λ _. then_shrinks h (λ a. then_shrinks (one_shrinks _) (λ _. pure_shrinks _)))
+  pointee_shrinks = then_shrinks (one_shrinks _) (λ _. then_shrinks (closed_shrinks child h) (λ a. pure_shrinks _))
 
   pub base_place_shrinks : Shrinks (base_place child)
   unfolding base_place variable
@@ -85,18 +86,18 @@ module _ (child : Parser Token Expr) (h : Shrinks child) where
 
   pub cast_shrinks : Shrinks (cast child)
   unfolding cast
-  cast_shrinks = then_shrinks (one_shrinks _) (λ _. then_shrinks cast_type_shrinks (λ to. then_shrinks (one_shrinks _) (λ _. then_shrinks h (λ a. then_shrinks (one_shrinks _) (λ _. pure_shrinks _)))))
+  cast_shrinks = then_shrinks (one_shrinks _) (λ _. then_shrinks cast_type_shrinks (λ to. then_shrinks (one_shrinks _) (λ _. then_shrinks (closed_shrinks child h) (λ a. pure_shrinks _))))
 
   pub binary_shrinks : Shrinks (binary child)
   unfolding binary
-  binary_shrinks = then_shrinks h (λ a. then_shrinks (one_shrinks _) (λ op. then_shrinks h (λ b. then_shrinks (one_shrinks _) (λ _. pure_shrinks _))))
+  binary_shrinks = then_shrinks h (λ a. then_shrinks (one_shrinks _) (λ op. then_shrinks (closed_shrinks child h) (λ b. pure_shrinks _)))
 
   pub opened_shrinks : Shrinks (opened child)
   unfolding opened read_pointee address unary
   opened_shrinks =
       either_shrinks (begins (marks mark.Star)) (then_shrinks pointee_shrinks (λ p. then_shrinks (selectors_shrinks p) (λ q. pure_shrinks _)))
       (either_shrinks (begins (marks mark.Ampersand)) (then_shrinks (one_shrinks _) (λ _. then_shrinks place_shrinks (λ p. then_shrinks (one_shrinks _) (λ _. pure_shrinks _))))
-      (either_shrinks (begins unaries) (then_shrinks (one_shrinks _) (λ op. then_shrinks h (λ a. then_shrinks (one_shrinks _) (λ _. pure_shrinks _))))
+      (either_shrinks (begins unaries) (then_shrinks (one_shrinks _) (λ op. then_shrinks (closed_shrinks child h) (λ a. pure_shrinks _)))
       (either_shrinks begins_cast cast_shrinks binary_shrinks)))
 
   pub expr_by_shrinks : Shrinks (expr_by child)
@@ -124,15 +125,19 @@ module _ (child : Parser Token Expr) (h : Shrinks child) where
   unfolding listed_arguments some_arguments
   arguments_shrinks = either_shrinks (begins (marks mark.Close)) (pure_shrinks _) (then_shrinks h (λ a. repeat_shrinks (begins (marks mark.Comma)) (next_argument child) next_argument_shrinks (a ∷ [])))
 
+  pub enclosed_arguments_shrinks : Shrinks (arguments child)
+  unfolding arguments
+  enclosed_arguments_shrinks = then_shrinks (one_shrinks _) (λ _. then_shrinks arguments_shrinks (λ all. then_shrinks (one_shrinks _) (λ _. pure_shrinks _)))
+
   pub call_shrinks : (into : Option Place) (c : CCallee) → Shrinks (call child into c)
   unfolding call
-  call_shrinks into c = then_shrinks (one_shrinks _) (λ _. then_shrinks arguments_shrinks (λ all. then_shrinks (one_shrinks _) (λ _. then_shrinks (one_shrinks _) (λ _. pure_shrinks _))))
+  call_shrinks into c = then_shrinks enclosed_arguments_shrinks (λ all. then_shrinks (one_shrinks _) (λ _. pure_shrinks _))
 
   pub callee_shrinks : Shrinks (callee child)
   unfolding callee indirect
   callee_shrinks =
       either_shrinks (begins names) (then_shrinks (one_shrinks _) (λ n. pure_shrinks _))
-      (then_shrinks (one_shrinks _) (λ _. then_shrinks (one_shrinks _) (λ _. then_shrinks h (λ a. then_shrinks (one_shrinks _) (λ _. pure_shrinks _)))))
+      (then_shrinks (one_shrinks _) (λ _. then_shrinks (one_shrinks _) (λ _. then_shrinks (closed_shrinks child h) (λ a. pure_shrinks _))))
 
   pub malloc_shrinks : (p : Place) → Shrinks (malloc p)
   unfolding malloc malloc_opening
@@ -175,15 +180,11 @@ module _ (child : Parser Token Expr) (h : Shrinks child) where
   pub simple_shrinks : Shrinks (simple child)
   unfolding simple free put_char goto return_with
   simple_shrinks =
-      either_shrinks (begins (words word.Free)) (then_shrinks (one_shrinks _) (λ _. then_shrinks (one_shrinks _) (λ _. then_shrinks h (λ a. then_shrinks (one_shrinks _) (λ _. then_shrinks (one_shrinks _) (λ _. pure_shrinks _))))))
-      (either_shrinks (begins (words word.PutChar)) (then_shrinks (one_shrinks _) (λ _. then_shrinks (one_shrinks _) (λ _. then_shrinks h (λ a. then_shrinks (one_shrinks _) (λ _. then_shrinks (one_shrinks _) (λ _. pure_shrinks _))))))
+      either_shrinks (begins (words word.Free)) (then_shrinks (one_shrinks _) (λ _. then_shrinks (enclosed_shrinks child h) (λ a. then_shrinks (one_shrinks _) (λ _. pure_shrinks _))))
+      (either_shrinks (begins (words word.PutChar)) (then_shrinks (one_shrinks _) (λ _. then_shrinks (enclosed_shrinks child h) (λ a. then_shrinks (one_shrinks _) (λ _. pure_shrinks _))))
       (either_shrinks (begins (words word.Goto)) (then_shrinks (one_shrinks _) (λ _. then_shrinks (one_shrinks _) (λ l. then_shrinks (one_shrinks _) (λ _. pure_shrinks _))))
       (either_shrinks (begins (words word.Return)) (then_shrinks (one_shrinks _) (λ _. then_shrinks returned_shrinks (λ a. then_shrinks (one_shrinks _) (λ _. pure_shrinks _))))
       (then_shrinks (place_shrinks child h) placed_shrinks))))
-
-  pub test_shrinks : Shrinks (tested child)
-  unfolding tested
-  test_shrinks = then_shrinks (one_shrinks _) (λ _. then_shrinks h (λ a. then_shrinks (one_shrinks _) (λ _. pure_shrinks _)))
 
   module _ (inside : Parser Token Statement) (g : Shrinks inside) where
     pub next_statement_shrinks : (all : List Statement) → Shrinks (next_statement inside all)
@@ -205,8 +206,8 @@ module _ (child : Parser Token Expr) (h : Shrinks child) where
     pub statement_by_shrinks : Shrinks (statement_by child inside)
     unfolding statement_by conditional while_loop
     statement_by_shrinks =
-        either_shrinks (begins (words word.If)) (then_shrinks (one_shrinks _) (λ _. then_shrinks test_shrinks (λ a. then_shrinks body_shrinks (λ all. either_shrinks (begins (words word.Else)) (otherwise_shrinks a all) (pure_shrinks _)))))
-        (either_shrinks (begins (words word.While)) (then_shrinks (one_shrinks _) (λ _. then_shrinks test_shrinks (λ a. then_shrinks body_shrinks (λ all. pure_shrinks _)))) simple_shrinks)
+        either_shrinks (begins (words word.If)) (then_shrinks (one_shrinks _) (λ _. then_shrinks (enclosed_shrinks child h) (λ a. then_shrinks body_shrinks (λ all. either_shrinks (begins (words word.Else)) (otherwise_shrinks a all) (pure_shrinks _)))))
+        (either_shrinks (begins (words word.While)) (then_shrinks (one_shrinks _) (λ _. then_shrinks (enclosed_shrinks child h) (λ a. then_shrinks body_shrinks (λ all. pure_shrinks _)))) simple_shrinks)
 
 pub statement_shrinks : (d : ℕ) → Shrinks (statement d)
 unfolding statement

@@ -20,6 +20,7 @@ use Rattle.c_parser.specs.Depth.{expr_depth, place_depth}
 use Rattle.c_parser.proofs.Shrinks.{selected_shrinks, selectors_shrinks, pointee_shrinks, place_shrinks, cast_type_shrinks, opened_shrinks, expr_shrinks}
 use Rattle.c_parser.proofs.TrackedTokens.{mark_tracked, word_tracked, name_tracked, number_tracked, unary_tracked, binary_tracked}
 use Rattle.c_parser.proofs.TrackedTypes.{cast_tracked}
+use Rattle.c_parser.proofs.Closed.{closed_shrinks, tracked_closed}
 
 -- no selector is next
 abbrev pub NoSelector : List Token → Type 0
@@ -132,7 +133,7 @@ cast_known n t w r h = by (begins (marks mark.Open) (t ∷ w))
 cast_last : (child : Parser Token Expr) → Shrinks child → (t : Token) (r : List Token) → begins_cast (t ∷ r) ≡ true → Short (suc (length r)) (cast child (t ∷ r))
 unfolding cast
 cast_last child shrinks t r e = begun_short (marks mark.Open) t r (opens r t e)
-    (λ _. then_shrinks cast_type_shrinks (λ _. then_shrinks (one_shrinks _) (λ _. then_shrinks shrinks (λ _. then_shrinks (one_shrinks _) (λ _. pure_shrinks _)))))
+    (λ _. then_shrinks cast_type_shrinks (λ _. then_shrinks (one_shrinks _) (λ _. then_shrinks (closed_shrinks child shrinks) (λ _. pure_shrinks _))))
 
 -- a cast or an operator between operands, where the text has the second
 binary_chosen : (n : ℕ) (W : Type 0) (child : Parser Token Expr) → Shrinks child → (y : Expr) (rest w s : List Token) → begins_cast w ≡ false → Along n w s → Tracked n W y rest (binary child s)
@@ -153,7 +154,7 @@ cast_chosen : (n : ℕ) (W : Type 0) (child : Parser Token Expr) → Shrinks chi
 unfolding binary
 cast_chosen n W child shrinks opens y rest w s one h k true e = k
 cast_chosen _ W child shrinks opens y rest _ _ one (last _ w r) k false e =
-    short_tracked (omega arith) (short_then (opens r) (λ _. then_shrinks (one_shrinks _) (λ _. then_shrinks shrinks (λ _. then_shrinks (one_shrinks _) (λ _. pure_shrinks _)))))
+    short_tracked (omega arith) (short_then (opens r) (λ _. then_shrinks (one_shrinks _) (λ _. then_shrinks (closed_shrinks child shrinks) (λ _. pure_shrinks _))))
 cast_chosen _ W child shrinks opens y rest _ _ one (longer n _ w r h) k false e = let same = cast_known n (Sign mark.Open) w r h in absurd cc
 
 -- ---- places
@@ -210,9 +211,9 @@ module _ (n : ℕ) (W : Type 0) (d : ℕ) (child : Parser Token Expr) (shrinks :
   pointee_tracked : (a : Expr) → IsExpr a → (W → expr_depth a ≤ d) → (rest s : List Token) → Along n (Sign mark.Star ∷ spell_expr a (Sign mark.Close ∷ rest)) s → Tracked n W (Pointee a) rest (pointee child s)
   unfolding pointee
   pointee_tracked a is deep rest s h =
-      mark_tracked mark.Star h (λ _. then_shrinks shrinks (λ _. then_shrinks (one_shrinks _) (λ _. pure_shrinks _))) (λ r h.
-      track_then (good a is deep (Sign mark.Close ∷ rest) r (no_selector_mark rest).0 h) (λ _. then_shrinks (one_shrinks _) (λ _. pure_shrinks _)) (λ r h.
-      mark_tracked mark.Close h (λ _. pure_shrinks _) (λ r h. track_pure (Pointee a) h)))
+      mark_tracked mark.Star h (λ _. then_shrinks (closed_shrinks child shrinks) (λ _. pure_shrinks _)) (λ r h.
+      tracked_closed child r (λ a s. Ok (Pointee a, s)) (track_then (good a is deep (Sign mark.Close ∷ rest) r (no_selector_mark rest).0 h) (λ _. then_shrinks (one_shrinks _) (λ _. pure_shrinks _)) (λ r h.
+      mark_tracked mark.Close h (λ _. pure_shrinks _) (λ r h. track_pure (Pointee a) h))))
 
   pub place_tracked : (p : Place) → IsPlace p → (W → place_depth p ≤ d) → (rest s : List Token) → NoSelector rest → Along n (spell_place p rest) s → Tracked n W p rest (place child s)
   unfolding place base_place variable begins same_mark
@@ -238,18 +239,18 @@ module _ (n : ℕ) (W : Type 0) (d : ℕ) (child : Parser Token Expr) (shrinks :
   op_tracked op a is deep rest s h =
       track_second (begins (marks mark.Star) s) _ _ (same_begins (marks mark.Star) h ∙ unary_no_star op _) (track_second (begins (marks mark.Ampersand) s) _ _ (same_begins (marks mark.Ampersand) h ∙ unary_no_ampersand op _)
       (track_first (begins unaries s) _ _ (same_begins unaries h ∙ unary_begins op _)
-      (unary_tracked op h (λ _. then_shrinks shrinks (λ _. then_shrinks (one_shrinks _) (λ _. pure_shrinks _))) (λ r h.
-      track_then (good a is deep (Sign mark.Close ∷ rest) r (no_selector_mark rest).0 h) (λ _. then_shrinks (one_shrinks _) (λ _. pure_shrinks _)) (λ r h.
-      mark_tracked mark.Close h (λ _. pure_shrinks _) (λ r h. track_pure (Unary op a) h))))))
+      (unary_tracked op h (λ _. then_shrinks (closed_shrinks child shrinks) (λ _. pure_shrinks _)) (λ r h.
+      tracked_closed child r (λ a s. Ok (Unary op a, s)) (track_then (good a is deep (Sign mark.Close ∷ rest) r (no_selector_mark rest).0 h) (λ _. then_shrinks (one_shrinks _) (λ _. pure_shrinks _)) (λ r h.
+      mark_tracked mark.Close h (λ _. pure_shrinks _) (λ r h. track_pure (Unary op a) h)))))))
 
   operands_tracked : (op : CBinary) (a b : Expr) → IsExpr a → IsExpr b → (W → expr_depth a ≤ d) → (W → expr_depth b ≤ d) → (rest s : List Token)
       → Along n (spell_expr a (Sign (binary_mark op) ∷ spell_expr b (Sign mark.Close ∷ rest))) s → Tracked n W (Binary op a b) rest (binary child s)
   unfolding binary
   operands_tracked op a b isa isb deep deep' rest s h =
-      track_then (good a isa deep (Sign (binary_mark op) ∷ spell_expr b (Sign mark.Close ∷ rest)) s (binary_no_selector op _) h) (λ _. then_shrinks (one_shrinks _) (λ _. then_shrinks shrinks (λ _. then_shrinks (one_shrinks _) (λ _. pure_shrinks _)))) (λ r h.
-      binary_tracked op h (λ _. then_shrinks shrinks (λ _. then_shrinks (one_shrinks _) (λ _. pure_shrinks _))) (λ r h.
-      track_then (good b isb deep' (Sign mark.Close ∷ rest) r (no_selector_mark rest).0 h) (λ _. then_shrinks (one_shrinks _) (λ _. pure_shrinks _)) (λ r h.
-      mark_tracked mark.Close h (λ _. pure_shrinks _) (λ r h. track_pure (Binary op a b) h))))
+      track_then (good a isa deep (Sign (binary_mark op) ∷ spell_expr b (Sign mark.Close ∷ rest)) s (binary_no_selector op _) h) (λ _. then_shrinks (one_shrinks _) (λ _. then_shrinks (closed_shrinks child shrinks) (λ _. pure_shrinks _))) (λ r h.
+      binary_tracked op h (λ _. then_shrinks (closed_shrinks child shrinks) (λ _. pure_shrinks _)) (λ r h.
+      tracked_closed child r (λ b s. Ok (Binary op a b, s)) (track_then (good b isb deep' (Sign mark.Close ∷ rest) r (no_selector_mark rest).0 h) (λ _. then_shrinks (one_shrinks _) (λ _. pure_shrinks _)) (λ r h.
+      mark_tracked mark.Close h (λ _. pure_shrinks _) (λ r h. track_pure (Binary op a b) h)))))
 
   module _ (opens : Opens child) where
     binary_tracked_there : (op : CBinary) (a b : Expr) → IsExpr a → IsExpr b → (W → expr_depth a ≤ d) → (W → expr_depth b ≤ d) → (rest s : List Token)
@@ -277,11 +278,11 @@ module _ (n : ℕ) (W : Type 0) (d : ℕ) (child : Parser Token Expr) (shrinks :
         track_second (begins (marks mark.Star) s) _ _ (same_begins (marks mark.Star) h) (track_second (begins (marks mark.Ampersand) s) _ _ (same_begins (marks mark.Ampersand) h)
         (track_second (begins unaries s) _ _ (same_begins unaries h)
         (cast_chosen n W child shrinks opens (Cast to a) rest w s (cast_begins to (Sign mark.Close ∷ spell_expr a (Sign mark.Close ∷ rest))) h
-        (mark_tracked mark.Open h (λ _. then_shrinks cast_type_shrinks (λ _. then_shrinks (one_shrinks _) (λ _. then_shrinks shrinks (λ _. then_shrinks (one_shrinks _) (λ _. pure_shrinks _))))) (λ r h.
-        track_then (cast_tracked n W to (Sign mark.Close ∷ spell_expr a (Sign mark.Close ∷ rest)) r h) (λ _. then_shrinks (one_shrinks _) (λ _. then_shrinks shrinks (λ _. then_shrinks (one_shrinks _) (λ _. pure_shrinks _)))) (λ r h.
-        mark_tracked mark.Close h (λ _. then_shrinks shrinks (λ _. then_shrinks (one_shrinks _) (λ _. pure_shrinks _))) (λ r h.
-        track_then (good a is deep (Sign mark.Close ∷ rest) r (no_selector_mark rest).0 h) (λ _. then_shrinks (one_shrinks _) (λ _. pure_shrinks _)) (λ r h.
-        mark_tracked mark.Close h (λ _. pure_shrinks _) (λ r h. track_pure (Cast to a) h))))))
+        (mark_tracked mark.Open h (λ _. then_shrinks cast_type_shrinks (λ _. then_shrinks (one_shrinks _) (λ _. then_shrinks (closed_shrinks child shrinks) (λ _. pure_shrinks _)))) (λ r h.
+        track_then (cast_tracked n W to (Sign mark.Close ∷ spell_expr a (Sign mark.Close ∷ rest)) r h) (λ _. then_shrinks (one_shrinks _) (λ _. then_shrinks (closed_shrinks child shrinks) (λ _. pure_shrinks _))) (λ r h.
+        mark_tracked mark.Close h (λ _. then_shrinks (closed_shrinks child shrinks) (λ _. pure_shrinks _)) (λ r h.
+        tracked_closed child r (λ a s. Ok (Cast to a, s)) (track_then (good a is deep (Sign mark.Close ∷ rest) r (no_selector_mark rest).0 h) (λ _. then_shrinks (one_shrinks _) (λ _. pure_shrinks _)) (λ r h.
+        mark_tracked mark.Close h (λ _. pure_shrinks _) (λ r h. track_pure (Cast to a) h)))))))
         (begins_cast s) refl)))
 
     -- ---- expressions

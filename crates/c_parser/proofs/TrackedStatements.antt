@@ -12,17 +12,18 @@ use Rattle.c_grammar.specs.Token.{Token, Identifier, Quoted, Sign}
 use Rattle.c_grammar.specs.Spelling.{spell_all, spell_next, spell_listed, spell_expr, spell_place, spell_callee, spell_value, spell_statement, spell_body, spell_type, binary_mark}
 use Rattle.c_grammar.specs.Grammar.{IsExpr, IsPlace, IsCallee, IsStatement, IsBody}
 use Rattle.c_grammar.proofs.Spelled.{expr_follow}
-use Rattle.token_parsing.specs.Parser.{Parser, one_of, begins, rest, either}
+use Rattle.token_parsing.specs.Parser.{Parser, and_then, one_of, begins, rest, either}
 use Rattle.token_parsing.proofs.Tracked.{Shrinks, Short, relaxed, stops_short, short_then, Takes, Along, ended, last, longer, Tracked, too_deep, one_shrinks, pure_shrinks, then_shrinks, either_shrinks, repeat_shrinks, takes_token, takes_then, takes_either, along_split, same_begins, begun_short, short_tracked, other_text, track_first, track_second, track_then, track_pure, Item, Listing, track_list}
-use Rattle.c_parser.specs.Classes.{same_word, same_mark, names, words, marks}
-use Rattle.c_parser.specs.Expressions.{pointee, variable, base_place, place, opened, read_variable, read_pointee, expr_by, expr}
-use Rattle.c_parser.specs.Statements.{next_argument, some_arguments, listed_arguments, call, indirect, callee, after_group, calls, malloc_opening, malloc, get_char, value, call_into, assigned, callee_of, called, placed, free, put_char, goto, returned, return_with, no_brace, next_statement, statements, body, tested, otherwise, conditional, while_loop, simple, statement_by, statement}
+use Rattle.c_parser.specs.Classes.{same_word, same_mark, names, words, marks, expect}
+use Rattle.c_parser.specs.Expressions.{closed, pointee, variable, base_place, place, opened, read_variable, read_pointee, expr_by, expr}
+use Rattle.c_parser.specs.Statements.{next_argument, some_arguments, listed_arguments, call, indirect, callee, after_group, calls, malloc_opening, malloc, get_char, value, call_into, assigned, callee_of, called, placed, free, put_char, goto, returned, return_with, no_brace, next_statement, statements, body, enclosed, otherwise, conditional, while_loop, simple, statement_by, statement}
 use Rattle.c_parser.specs.Depth.{expr_depth, place_depth, callee_depth, arguments_depth, value_depth, statement_depth, body_depth}
-use Rattle.c_parser.proofs.Shrinks.{type_shrinks, selectors_shrinks, pointee_shrinks, opened_shrinks, expr_shrinks, next_argument_shrinks, arguments_shrinks, call_shrinks, malloc_shrinks, get_char_shrinks, value_shrinks, call_into_shrinks, placed_shrinks, returned_shrinks, test_shrinks, next_statement_shrinks, statements_shrinks, body_shrinks, otherwise_shrinks, statement_shrinks}
+use Rattle.c_parser.proofs.Shrinks.{type_shrinks, selectors_shrinks, pointee_shrinks, opened_shrinks, expr_shrinks, next_argument_shrinks, arguments_shrinks, call_shrinks, malloc_shrinks, get_char_shrinks, value_shrinks, call_into_shrinks, placed_shrinks, returned_shrinks, next_statement_shrinks, statements_shrinks, body_shrinks, otherwise_shrinks, statement_shrinks}
 use Rattle.c_parser.proofs.TrackedTokens.{mark_tracked, word_tracked, name_tracked}
 use Rattle.c_parser.proofs.TrackedTypes.{type_tracked}
 use Rattle.c_parser.proofs.TrackedExpressions.{NoSelector, no_selector_mark, expr_starts, unary_no_star, ExprTracked, place_tracked, expr_tracked}
 use Rattle.c_parser.proofs.TrackedCalls.{expr_skipped}
+use Rattle.c_parser.proofs.Closed.{closed_shrinks, enclosed_shrinks, tracked_closed, tracked_arguments}
 
 -- ---- what an expression does not begin with
 
@@ -149,19 +150,19 @@ module _ (n : ℕ) (W : Type 0) (d : ℕ) (child : Parser Token Expr) (shrinks :
       → Along n (Sign mark.Open ∷ spell_listed spell_expr all (Sign mark.Close ∷ Sign mark.Semicolon ∷ rest)) s → Tracked n W (Call into c all) rest (call child into c s)
   unfolding call
   call_tracked into c all is deep rest s h =
-      mark_tracked mark.Open h (λ _. then_shrinks (arguments_shrinks child shrinks) (λ _. then_shrinks (one_shrinks _) (λ _. then_shrinks (one_shrinks _) (λ _. pure_shrinks _)))) (λ r h.
+      tracked_arguments child s (λ all s. and_then (expect mark.Semicolon s) (λ _ s. Ok (Call into c all, s))) (mark_tracked mark.Open h (λ _. then_shrinks (arguments_shrinks child shrinks) (λ _. then_shrinks (one_shrinks _) (λ _. then_shrinks (one_shrinks _) (λ _. pure_shrinks _)))) (λ r h.
       track_then (arguments_tracked all is deep (Sign mark.Semicolon ∷ rest) r h) (λ _. then_shrinks (one_shrinks _) (λ _. then_shrinks (one_shrinks _) (λ _. pure_shrinks _))) (λ r h.
-      mark_tracked mark.Close h (λ _. then_shrinks (one_shrinks _) (λ _. pure_shrinks _)) (λ r h. mark_tracked mark.Semicolon h (λ _. pure_shrinks _) (λ r h. track_pure (Call into c all) h))))
+      mark_tracked mark.Close h (λ _. then_shrinks (one_shrinks _) (λ _. pure_shrinks _)) (λ r h. mark_tracked mark.Semicolon h (λ _. pure_shrinks _) (λ r h. track_pure (Call into c all) h)))))
 
   callee_tracked : (c : CCallee) → IsCallee c → (W → callee_depth c ≤ d) → (rest s : List Token) → Along n (spell_callee c rest) s → Tracked n W c rest (callee child s)
   unfolding callee indirect begins same_mark
   callee_tracked (Direct name) is deep rest s h = track_first (begins names s) _ _ (same_begins names h) (name_tracked name h (λ _. pure_shrinks _) (λ r h. track_pure (Direct name) h))
   callee_tracked (Indirect a) is deep rest s h =
       track_second (begins names s) _ _ (same_begins names h)
-      (mark_tracked mark.Open h (λ _. then_shrinks (one_shrinks _) (λ _. then_shrinks shrinks (λ _. then_shrinks (one_shrinks _) (λ _. pure_shrinks _)))) (λ r h.
-      mark_tracked mark.Star h (λ _. then_shrinks shrinks (λ _. then_shrinks (one_shrinks _) (λ _. pure_shrinks _))) (λ r h.
-      track_then (good a is deep (Sign mark.Close ∷ rest) r (no_selector_mark rest).0 h) (λ _. then_shrinks (one_shrinks _) (λ _. pure_shrinks _)) (λ r h.
-      mark_tracked mark.Close h (λ _. pure_shrinks _) (λ r h. track_pure (Indirect a) h)))))
+      (mark_tracked mark.Open h (λ _. then_shrinks (one_shrinks _) (λ _. then_shrinks (closed_shrinks child shrinks) (λ _. pure_shrinks _))) (λ r h.
+      mark_tracked mark.Star h (λ _. then_shrinks (closed_shrinks child shrinks) (λ _. pure_shrinks _)) (λ r h.
+      tracked_closed child r (λ a s. Ok (Indirect a, s)) (track_then (good a is deep (Sign mark.Close ∷ rest) r (no_selector_mark rest).0 h) (λ _. then_shrinks (one_shrinks _) (λ _. pure_shrinks _)) (λ r h.
+      mark_tracked mark.Close h (λ _. pure_shrinks _) (λ r h. track_pure (Indirect a) h))))))
 
   call_into_tracked : (p : Place) (c : CCallee) (all : List Expr) → IsCallee c → (W → callee_depth c ≤ d) → AllByRecursion IsExpr all → (W → arguments_depth all ≤ d) → (rest s : List Token)
       → Along n (spell_callee c (Sign mark.Open ∷ spell_listed spell_expr all (Sign mark.Close ∷ Sign mark.Semicolon ∷ rest))) s → Tracked n W (Call (Some p) c all) rest (call_into child p s)
@@ -202,7 +203,7 @@ module _ (W : Type 0) (d : ℕ) (child : Parser Token Expr) (shrinks : Shrinks c
   call_open_short : (r : List Token) → Short (suc (length r)) (call_into child p (Sign mark.Open ∷ r))
   unfolding call_into callee indirect begins same_mark
   call_open_short r =
-      short_then (begun_short (marks mark.Open) (Sign mark.Open) r refl (λ _. then_shrinks (one_shrinks _) (λ _. then_shrinks shrinks (λ _. then_shrinks (one_shrinks _) (λ _. pure_shrinks _))))) (λ c. call_shrinks child shrinks (Some p) c)
+      short_then (begun_short (marks mark.Open) (Sign mark.Open) r refl (λ _. then_shrinks (one_shrinks _) (λ _. then_shrinks (closed_shrinks child shrinks) (λ _. pure_shrinks _)))) (λ c. call_shrinks child shrinks (Some p) c)
 
   -- the text has a call, of which the parenthesis is not seen
   no_call_seen : (n : ℕ) (y : Statement) (rest : List Token) (c : CCallee) (w s : List Token) → IsCallee c → Along n (spell_callee c (Sign mark.Open ∷ w)) s → calls s ≡ false → Tracked n W y rest (value child p s)
@@ -400,23 +401,25 @@ module _ (n : ℕ) (W : Type 0) (d : ℕ) (child : Parser Token Expr) (shrinks :
       track_second (begins (marks mark.Assign) s) _ _ (same_begins (marks mark.Assign) h) (track_second (begins (marks mark.Open) s) _ _ (same_begins (marks mark.Open) h)
       (mark_tracked mark.Colon h (λ _. then_shrinks (one_shrinks _) (λ _. pure_shrinks _)) (λ r h. mark_tracked mark.Semicolon h (λ _. pure_shrinks _) (λ r h. track_pure (Label l) h))))
 
+  enclosed_tracked : (a : Expr) → IsExpr a → (W → expr_depth a ≤ d) → (rest s : List Token) → Along n (Sign mark.Open ∷ spell_expr a (Sign mark.Close ∷ rest)) s → Tracked n W a rest (enclosed child s)
+  unfolding enclosed closed
+  enclosed_tracked a is deep rest s h =
+      mark_tracked mark.Open h (λ _. then_shrinks shrinks (λ _. then_shrinks (one_shrinks _) (λ _. pure_shrinks _))) (λ r h.
+      track_then (good n W a is deep (Sign mark.Close ∷ rest) r (no_selector_mark rest).0 h) (λ _. then_shrinks (one_shrinks _) (λ _. pure_shrinks _)) (λ r h. mark_tracked mark.Close h (λ _. pure_shrinks _) (λ r h. track_pure a h)))
+
   free_tracked : (a : Expr) → IsExpr a → (W → expr_depth a ≤ d) → (rest s : List Token) → Along n (spell_statement (Free a) rest) s → Tracked n W (Free a) rest (simple child s)
   unfolding simple free begins same_word
   free_tracked a is deep rest s h =
       track_first (begins (words word.Free) s) _ _ (same_begins (words word.Free) h)
-      (word_tracked word.Free h (λ _. then_shrinks (one_shrinks _) (λ _. then_shrinks shrinks (λ _. then_shrinks (one_shrinks _) (λ _. then_shrinks (one_shrinks _) (λ _. pure_shrinks _))))) (λ r h.
-      mark_tracked mark.Open h (λ _. then_shrinks shrinks (λ _. then_shrinks (one_shrinks _) (λ _. then_shrinks (one_shrinks _) (λ _. pure_shrinks _)))) (λ r h.
-      track_then (good n W a is deep (Sign mark.Close ∷ Sign mark.Semicolon ∷ rest) r (no_selector_mark (Sign mark.Semicolon ∷ rest)).0 h) (λ _. then_shrinks (one_shrinks _) (λ _. then_shrinks (one_shrinks _) (λ _. pure_shrinks _))) (λ r h.
-      mark_tracked mark.Close h (λ _. then_shrinks (one_shrinks _) (λ _. pure_shrinks _)) (λ r h. mark_tracked mark.Semicolon h (λ _. pure_shrinks _) (λ r h. track_pure (Free a) h))))))
+      (word_tracked word.Free h (λ _. then_shrinks (enclosed_shrinks child shrinks) (λ _. then_shrinks (one_shrinks _) (λ _. pure_shrinks _))) (λ r h.
+      track_then (enclosed_tracked a is deep (Sign mark.Semicolon ∷ rest) r h) (λ _. then_shrinks (one_shrinks _) (λ _. pure_shrinks _)) (λ r h. mark_tracked mark.Semicolon h (λ _. pure_shrinks _) (λ r h. track_pure (Free a) h))))
 
   put_char_tracked : (a : Expr) → IsExpr a → (W → expr_depth a ≤ d) → (rest s : List Token) → Along n (spell_statement (PutChar a) rest) s → Tracked n W (PutChar a) rest (simple child s)
   unfolding simple put_char begins same_word
   put_char_tracked a is deep rest s h =
       track_second (begins (words word.Free) s) _ _ (same_begins (words word.Free) h) (track_first (begins (words word.PutChar) s) _ _ (same_begins (words word.PutChar) h)
-      (word_tracked word.PutChar h (λ _. then_shrinks (one_shrinks _) (λ _. then_shrinks shrinks (λ _. then_shrinks (one_shrinks _) (λ _. then_shrinks (one_shrinks _) (λ _. pure_shrinks _))))) (λ r h.
-      mark_tracked mark.Open h (λ _. then_shrinks shrinks (λ _. then_shrinks (one_shrinks _) (λ _. then_shrinks (one_shrinks _) (λ _. pure_shrinks _)))) (λ r h.
-      track_then (good n W a is deep (Sign mark.Close ∷ Sign mark.Semicolon ∷ rest) r (no_selector_mark (Sign mark.Semicolon ∷ rest)).0 h) (λ _. then_shrinks (one_shrinks _) (λ _. then_shrinks (one_shrinks _) (λ _. pure_shrinks _))) (λ r h.
-      mark_tracked mark.Close h (λ _. then_shrinks (one_shrinks _) (λ _. pure_shrinks _)) (λ r h. mark_tracked mark.Semicolon h (λ _. pure_shrinks _) (λ r h. track_pure (PutChar a) h)))))))
+      (word_tracked word.PutChar h (λ _. then_shrinks (enclosed_shrinks child shrinks) (λ _. then_shrinks (one_shrinks _) (λ _. pure_shrinks _))) (λ r h.
+      track_then (enclosed_tracked a is deep (Sign mark.Semicolon ∷ rest) r h) (λ _. then_shrinks (one_shrinks _) (λ _. pure_shrinks _)) (λ r h. mark_tracked mark.Semicolon h (λ _. pure_shrinks _) (λ r h. track_pure (PutChar a) h)))))
 
   goto_tracked : (l : List ℕ) (rest s : List Token) → Along n (spell_statement (Goto l) rest) s → Tracked n W (Goto l) rest (simple child s)
   unfolding simple goto begins same_word
@@ -481,12 +484,6 @@ module _ (n : ℕ) (W : Type 0) (d : ℕ) (child : Parser Token Expr) (shrinks :
         mark_tracked mark.OpenBrace h (λ _. then_shrinks (statements_shrinks child shrinks inside shrinks') (λ _. then_shrinks (one_shrinks _) (λ _. pure_shrinks _))) (λ r h.
         track_then (statements_tracked all is deep rest r h) (λ _. then_shrinks (one_shrinks _) (λ _. pure_shrinks _)) (λ r h. mark_tracked mark.CloseBrace h (λ _. pure_shrinks _) (λ r h. track_pure all h)))
 
-    test_tracked : (a : Expr) → IsExpr a → (W → expr_depth a ≤ d) → (rest s : List Token) → Along n (Sign mark.Open ∷ spell_expr a (Sign mark.Close ∷ rest)) s → Tracked n W a rest (tested child s)
-    unfolding tested
-    test_tracked a is deep rest s h =
-        mark_tracked mark.Open h (λ _. then_shrinks shrinks (λ _. then_shrinks (one_shrinks _) (λ _. pure_shrinks _))) (λ r h.
-        track_then (good n W a is deep (Sign mark.Close ∷ rest) r (no_selector_mark rest).0 h) (λ _. then_shrinks (one_shrinks _) (λ _. pure_shrinks _)) (λ r h. mark_tracked mark.Close h (λ _. pure_shrinks _) (λ r h. track_pure a h)))
-
     -- up to the end of the first body
     headed_tracked : (y : Statement) (rest : List Token) (a : Expr) (all : List Statement) → IsExpr a → IsBody (body_of all) → (W → expr_depth a ≤ d) → (W → body_depth (body_of all) ≤ d) → (w s : List Token)
         → Along n (Quoted word.If ∷ Sign mark.Open ∷ spell_expr a (Sign mark.Close ∷ Sign mark.OpenBrace ∷ spell_body (body_of all) (Sign mark.CloseBrace ∷ w))) s
@@ -495,8 +492,8 @@ module _ (n : ℕ) (W : Type 0) (d : ℕ) (child : Parser Token Expr) (shrinks :
     headed_tracked y rest a all isa isb deep deep' w s h k =
         let ends : (a : Expr) (all : List Statement) → Shrinks (either (begins (words word.Else)) (otherwise inside a all) (λ s. Ok (If a (body_of all), s))) =
         λ a all. either_shrinks (begins (words word.Else)) (otherwise_shrinks child shrinks inside shrinks' a all) (pure_shrinks (If a (body_of all))) in
-        word_tracked word.If h (λ _. then_shrinks (test_shrinks child shrinks) (λ a. then_shrinks (body_shrinks child shrinks inside shrinks') (ends a))) (λ r h.
-        track_then (test_tracked a isa deep (Sign mark.OpenBrace ∷ spell_body (body_of all) (Sign mark.CloseBrace ∷ w)) r h) (λ a. then_shrinks (body_shrinks child shrinks inside shrinks') (ends a)) (λ r h.
+        word_tracked word.If h (λ _. then_shrinks (enclosed_shrinks child shrinks) (λ a. then_shrinks (body_shrinks child shrinks inside shrinks') (ends a))) (λ r h.
+        track_then (enclosed_tracked a isa deep (Sign mark.OpenBrace ∷ spell_body (body_of all) (Sign mark.CloseBrace ∷ w)) r h) (λ a. then_shrinks (body_shrinks child shrinks inside shrinks') (ends a)) (λ r h.
         track_then (body_tracked all isb deep' w r h) (ends a) k))
 
     if_tracked : (a : Expr) (all : List Statement) → IsExpr a → IsBody (body_of all) → (W → statement_depth (If a (body_of all)) ≤ suc d) → (rest s : List Token) → NoElse rest
@@ -519,8 +516,8 @@ module _ (n : ℕ) (W : Type 0) (d : ℕ) (child : Parser Token Expr) (shrinks :
         → Along n (spell_statement (While a (body_of all)) rest) s → Tracked n W (While a (body_of all)) rest (while_loop child inside s)
     unfolding while_loop
     while_tracked a all isa isb deep rest s h =
-        word_tracked word.While h (λ _. then_shrinks (test_shrinks child shrinks) (λ a. then_shrinks (body_shrinks child shrinks inside shrinks') (λ all. pure_shrinks (While a (body_of all))))) (λ r h.
-        track_then (test_tracked a isa (λ w. let all = deep w in grind (arith, all)) (Sign mark.OpenBrace ∷ spell_body (body_of all) (Sign mark.CloseBrace ∷ rest)) r h)
+        word_tracked word.While h (λ _. then_shrinks (enclosed_shrinks child shrinks) (λ a. then_shrinks (body_shrinks child shrinks inside shrinks') (λ all. pure_shrinks (While a (body_of all))))) (λ r h.
+        track_then (enclosed_tracked a isa (λ w. let all = deep w in grind (arith, all)) (Sign mark.OpenBrace ∷ spell_body (body_of all) (Sign mark.CloseBrace ∷ rest)) r h)
         (λ a. then_shrinks (body_shrinks child shrinks inside shrinks') (λ all. pure_shrinks (While a (body_of all)))) (λ r h.
         track_then (body_tracked all isb (λ w. let all = deep w in grind (arith, all)) rest r h) (λ all. pure_shrinks (While a (body_of all))) (λ r h. track_pure (While a (body_of all)) h)))
 
@@ -593,7 +590,7 @@ module _ (n : ℕ) (W : Type 0) (d : ℕ) (child : Parser Token Expr) (shrinks :
 star_taken : (d : ℕ) (r : List Token) → Short (suc (length r)) (expr_by (expr d) (Sign mark.Open ∷ Sign mark.Star ∷ r))
 unfolding expr_by opened read_pointee pointee one_of begins same_mark
 star_taken d r =
-    relaxed (then_shrinks (then_shrinks (expr_shrinks d) (λ a. then_shrinks (one_shrinks _) (λ _. pure_shrinks _))) (λ p. then_shrinks (selectors_shrinks (expr d) (expr_shrinks d) p) (λ q. pure_shrinks (Read q))) (suc (length r)) r (omega arith))
+    relaxed (then_shrinks (then_shrinks (closed_shrinks (expr d) (expr_shrinks d)) (λ a. pure_shrinks _)) (λ p. then_shrinks (selectors_shrinks (expr d) (expr_shrinks d) p) (λ q. pure_shrinks (Read q))) (suc (length r)) r (omega arith))
 
 pub expr_taking : (d : ℕ) → Taking (expr d)
 unfolding expr expr_by read_variable variable begins same_mark
@@ -613,8 +610,8 @@ module _ (child : Parser Token Expr) (shrinks : Shrinks child) (s : List Token) 
   simple_takes : Takes (length s) (simple child s)
   unfolding simple free put_char goto return_with
   simple_takes =
-      takes_either (length s) (begins (words word.Free) s) _ _ (takes_token (words word.Free) s (λ _. then_shrinks (one_shrinks _) (λ _. then_shrinks shrinks (λ _. then_shrinks (one_shrinks _) (λ _. then_shrinks (one_shrinks _) (λ _. pure_shrinks _))))))
-      (takes_either (length s) (begins (words word.PutChar) s) _ _ (takes_token (words word.PutChar) s (λ _. then_shrinks (one_shrinks _) (λ _. then_shrinks shrinks (λ _. then_shrinks (one_shrinks _) (λ _. then_shrinks (one_shrinks _) (λ _. pure_shrinks _))))))
+      takes_either (length s) (begins (words word.Free) s) _ _ (takes_token (words word.Free) s (λ _. then_shrinks (enclosed_shrinks child shrinks) (λ _. then_shrinks (one_shrinks _) (λ _. pure_shrinks _))))
+      (takes_either (length s) (begins (words word.PutChar) s) _ _ (takes_token (words word.PutChar) s (λ _. then_shrinks (enclosed_shrinks child shrinks) (λ _. then_shrinks (one_shrinks _) (λ _. pure_shrinks _))))
       (takes_either (length s) (begins (words word.Goto) s) _ _ (takes_token (words word.Goto) s (λ _. then_shrinks (one_shrinks _) (λ _. then_shrinks (one_shrinks _) (λ _. pure_shrinks _))))
       (takes_either (length s) (begins (words word.Return) s) _ _ (takes_token (words word.Return) s (λ _. then_shrinks (returned_shrinks child shrinks) (λ _. then_shrinks (one_shrinks _) (λ _. pure_shrinks _))))
       (takes_then (length s) (place child s) place_takes (placed_shrinks child shrinks)))))
@@ -623,10 +620,10 @@ module _ (child : Parser Token Expr) (shrinks : Shrinks child) (s : List Token) 
   unfolding statement_by conditional while_loop
   statement_by_takes inside shrinks' =
       takes_either (length s) (begins (words word.If) s) _ _
-      (takes_token (words word.If) s (λ _. then_shrinks (test_shrinks child shrinks) (λ a. then_shrinks (body_shrinks child shrinks inside shrinks')
+      (takes_token (words word.If) s (λ _. then_shrinks (enclosed_shrinks child shrinks) (λ a. then_shrinks (body_shrinks child shrinks inside shrinks')
       (λ all. either_shrinks (begins (words word.Else)) (otherwise_shrinks child shrinks inside shrinks' a all) (pure_shrinks (If a (body_of all)))))))
       (takes_either (length s) (begins (words word.While) s) _ _
-      (takes_token (words word.While) s (λ _. then_shrinks (test_shrinks child shrinks) (λ a. then_shrinks (body_shrinks child shrinks inside shrinks') (λ all. pure_shrinks (While a (body_of all))))))
+      (takes_token (words word.While) s (λ _. then_shrinks (enclosed_shrinks child shrinks) (λ a. then_shrinks (body_shrinks child shrinks inside shrinks') (λ all. pure_shrinks (While a (body_of all))))))
       simple_takes)
 
 pub statement_takes : (d : ℕ) (s : List Token) → Takes (length s) (statement d s)

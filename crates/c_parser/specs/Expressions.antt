@@ -26,6 +26,10 @@ word_number = expect_word word.Uint64 >>= λ _. expect mark.Open >>= λ _. one_o
 unfoldable pub null : Parser Token Expr
 null = expect_word word.Null >>= λ _. pure Null
 
+-- Expr ")"
+unfoldable pub closed : Parser Token Expr → Parser Token Expr
+closed expr = expr >>= λ a. expect mark.Close >>= λ _. pure a
+
 -- ---- places
 
 abbrev pub begins_selector : List Token → Bool
@@ -46,7 +50,7 @@ selectors expr = repeat begins_selector (selected expr)
 
 -- after the parenthesis: "*" Expr ")"
 unfoldable pub pointee : Parser Token Expr → Parser Token Place
-pointee expr = expect mark.Star >>= λ _. expr >>= λ a. expect mark.Close >>= λ _. pure (Pointee a)
+pointee expr = expect mark.Star >>= λ _. closed expr >>= λ a. pure (Pointee a)
 
 unfoldable pub variable : Parser Token Place
 variable = one_of names >>= λ n. pure (Variable n)
@@ -67,13 +71,13 @@ unfoldable pub address : Parser Token Expr → Parser Token Expr
 address expr = expect mark.Ampersand >>= λ _. place expr >>= λ p. expect mark.Close >>= λ _. pure (Address p)
 
 unfoldable pub unary : Parser Token Expr → Parser Token Expr
-unary expr = one_of unaries >>= λ op. expr >>= λ a. expect mark.Close >>= λ _. pure (Unary op a)
+unary expr = one_of unaries >>= λ op. closed expr >>= λ a. pure (Unary op a)
 
 unfoldable pub binary : Parser Token Expr → Parser Token Expr
-binary expr = expr >>= λ a. one_of binaries >>= λ op. expr >>= λ b. expect mark.Close >>= λ _. pure (Binary op a b)
+binary expr = expr >>= λ a. one_of binaries >>= λ op. closed expr >>= λ b. pure (Binary op a b)
 
 unfoldable pub cast : Parser Token Expr → Parser Token Expr
-cast expr = expect mark.Open >>= λ _. cast_type >>= λ to. expect mark.Close >>= λ _. expr >>= λ a. expect mark.Close >>= λ _. pure (Cast to a)
+cast expr = expect mark.Open >>= λ _. cast_type >>= λ to. expect mark.Close >>= λ _. closed expr >>= λ a. pure (Cast to a)
 
 -- a second parenthesis and the first word of a cast
 abbrev pub begins_cast : List Token → Bool

@@ -9,7 +9,7 @@ use Rattle.c_grammar.specs.Token.{Token}
 use Rattle.token_parsing.specs.Parser.{Parser, ◌>>=◌, pure, refuse, stop, one_of, begins, rest, either, repeat}
 use Rattle.c_parser.specs.Classes.{names, words, marks, expect, expect_word}
 use Rattle.c_parser.specs.Types.{object_type}
-use Rattle.c_parser.specs.Expressions.{place, expr}
+use Rattle.c_parser.specs.Expressions.{closed, place, expr}
 
 -- ---- calls
 
@@ -25,12 +25,16 @@ some_arguments expr = expr >>= λ a. repeat (begins (marks mark.Comma)) (next_ar
 unfoldable pub listed_arguments : Parser Token Expr → Parser Token (List Expr)
 listed_arguments expr = either (begins (marks mark.Close)) (pure []) (some_arguments expr)
 
--- "(" [Expr {"," Expr}] ")" ";"
+-- "(" [Expr {"," Expr}] ")"
+unfoldable pub arguments : Parser Token Expr → Parser Token (List Expr)
+arguments expr = expect mark.Open >>= λ _. listed_arguments expr >>= λ all. expect mark.Close >>= λ _. pure all
+
+-- the arguments and ";"
 unfoldable pub call : Parser Token Expr → Option Place → CCallee → Parser Token Statement
-call expr into callee = expect mark.Open >>= λ _. listed_arguments expr >>= λ all. expect mark.Close >>= λ _. expect mark.Semicolon >>= λ _. pure (Call into callee all)
+call expr into callee = arguments expr >>= λ all. expect mark.Semicolon >>= λ _. pure (Call into callee all)
 
 unfoldable pub indirect : Parser Token Expr → Parser Token CCallee
-indirect expr = expect mark.Open >>= λ _. expect mark.Star >>= λ _. expr >>= λ a. expect mark.Close >>= λ _. pure (Indirect a)
+indirect expr = expect mark.Open >>= λ _. expect mark.Star >>= λ _. closed expr >>= λ a. pure (Indirect a)
 
 unfoldable pub callee : Parser Token Expr → Parser Token CCallee
 callee expr = either (begins names) (one_of names >>= λ n. pure (Direct n)) (indirect expr)
@@ -100,11 +104,15 @@ placed expr p = either (begins (marks mark.Assign)) (assigned expr p) (either (b
 
 -- ---- the other simple statements
 
+-- "(" Expr ")"
+unfoldable pub enclosed : Parser Token Expr → Parser Token Expr
+enclosed expr = expect mark.Open >>= λ _. closed expr
+
 unfoldable pub free : Parser Token Expr → Parser Token Statement
-free expr = expect_word word.Free >>= λ _. expect mark.Open >>= λ _. expr >>= λ a. expect mark.Close >>= λ _. expect mark.Semicolon >>= λ _. pure (Free a)
+free expr = expect_word word.Free >>= λ _. enclosed expr >>= λ a. expect mark.Semicolon >>= λ _. pure (Free a)
 
 unfoldable pub put_char : Parser Token Expr → Parser Token Statement
-put_char expr = expect_word word.PutChar >>= λ _. expect mark.Open >>= λ _. expr >>= λ a. expect mark.Close >>= λ _. expect mark.Semicolon >>= λ _. pure (PutChar a)
+put_char expr = expect_word word.PutChar >>= λ _. enclosed expr >>= λ a. expect mark.Semicolon >>= λ _. pure (PutChar a)
 
 unfoldable pub goto : Parser Token Statement
 goto = expect_word word.Goto >>= λ _. one_of names >>= λ l. expect mark.Semicolon >>= λ _. pure (Goto l)
@@ -132,19 +140,15 @@ statements statement = repeat no_brace (next_statement statement) []
 unfoldable pub body : Parser Token Statement → Parser Token (List Statement)
 body statement = expect mark.OpenBrace >>= λ _. statements statement >>= λ all. expect mark.CloseBrace >>= λ _. pure all
 
--- "(" Expr ")"
-unfoldable pub tested : Parser Token Expr → Parser Token Expr
-tested expr = expect mark.Open >>= λ _. expr >>= λ a. expect mark.Close >>= λ _. pure a
-
 unfoldable pub otherwise : Parser Token Statement → Expr → List Statement → Parser Token Statement
 otherwise statement a all = expect_word word.Else >>= λ _. body statement >>= λ more. pure (IfElse a (body_of all) (body_of more))
 
 unfoldable pub conditional : Parser Token Expr → Parser Token Statement → Parser Token Statement
-conditional expr statement = expect_word word.If >>= λ _. tested expr >>= λ a. body statement >>= λ all.
+conditional expr statement = expect_word word.If >>= λ _. enclosed expr >>= λ a. body statement >>= λ all.
     either (begins (words word.Else)) (otherwise statement a all) (pure (If a (body_of all)))
 
 unfoldable pub while_loop : Parser Token Expr → Parser Token Statement → Parser Token Statement
-while_loop expr statement = expect_word word.While >>= λ _. tested expr >>= λ a. body statement >>= λ all. pure (While a (body_of all))
+while_loop expr statement = expect_word word.While >>= λ _. enclosed expr >>= λ a. body statement >>= λ all. pure (While a (body_of all))
 
 unfoldable pub simple : Parser Token Expr → Parser Token Statement
 simple expr =

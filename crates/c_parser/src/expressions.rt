@@ -48,6 +48,21 @@ fn null<'a>(tokens: &'a [CToken<'a>]) -> Result<(CExpr, &'a [CToken<'a>]), Parse
     Ok((CExpr::null(), rest))
 }
 
+/// An expression and `)`.
+#[tactic(auto, unfolding(crate::specs::Expressions::closed))]
+#[cycle(descent)]
+pub fn closed<'a>(
+    alloc: Global,
+    tokens: &'a [CToken<'a>],
+    depth: u32,
+) -> Result<(CExpr, &'a [CToken<'a>]), ParseError>
+    ensures { Gives (λ x. (x.0, tokens_of x.1.now)) result (spec.closed (spec.expr depth) (tokens_of tokens.now)) }
+{
+    let (inner, rest) = expr(alloc, tokens, depth)?;
+    let rest = expect(rest, Mark::Close)?;
+    Ok((inner, rest))
+}
+
 /// `.member`, after a place.
 #[tactic(auto, unfolding(crate::specs::Expressions::member))]
 fn member<'a>(
@@ -135,8 +150,7 @@ fn pointee<'a>(
     ensures { Gives (λ x. (x.0, tokens_of x.1.now)) result (spec.pointee (spec.expr depth) (tokens_of tokens.now)) }
 {
     let rest = expect(tokens, Mark::Star)?;
-    let (pointer, rest) = expr(alloc, rest, depth)?;
-    let rest = expect(rest, Mark::Close)?;
+    let (pointer, rest) = closed(alloc, rest, depth)?;
     Ok((CPlace::pointee(alloc, pointer)?, rest))
 }
 
@@ -223,8 +237,7 @@ fn unary<'a>(
     ensures { Gives (λ x. (x.0, tokens_of x.1.now)) result (spec.unary (spec.expr depth) (tokens_of tokens.now)) }
 {
     let (operator, rest) = unary_operator(tokens)?;
-    let (operand, rest) = expr(alloc, rest, depth)?;
-    let rest = expect(rest, Mark::Close)?;
+    let (operand, rest) = closed(alloc, rest, depth)?;
     Ok((CExpr::unary(alloc, operator, operand)?, rest))
 }
 
@@ -240,8 +253,7 @@ fn binary<'a>(
 {
     let (left, rest) = expr(alloc, tokens, depth)?;
     let (operator, rest) = binary_operator(rest)?;
-    let (right, rest) = expr(alloc, rest, depth)?;
-    let rest = expect(rest, Mark::Close)?;
+    let (right, rest) = closed(alloc, rest, depth)?;
     Ok((CExpr::binary(alloc, operator, left, right)?, rest))
 }
 
@@ -258,8 +270,7 @@ fn cast<'a>(
     let rest = expect(tokens, Mark::Open)?;
     let (to, rest) = cast_type(alloc, rest)?;
     let rest = expect(rest, Mark::Close)?;
-    let (operand, rest) = expr(alloc, rest, depth)?;
-    let rest = expect(rest, Mark::Close)?;
+    let (operand, rest) = closed(alloc, rest, depth)?;
     Ok((CExpr::cast(alloc, to, operand)?, rest))
 }
 

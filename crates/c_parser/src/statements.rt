@@ -9,7 +9,7 @@ ghost use Rattle.c_parser.specs.Classes.{marks};
 ghost use Rattle.c_parser.specs.Expressions.{place as place_of};
 ghost use Rattle.c_grammar.specs.declared.token.Mark.TheVariants as mark;
 
-use crate::expressions::{expr, place};
+use crate::expressions::{closed, expr, place};
 use crate::step::{after, expect, expect_word, is, is_name, is_word, name, same};
 use crate::types::object_type;
 use c_grammar::token::{CToken, Mark, Word};
@@ -88,6 +88,21 @@ fn listed_arguments<'a>(
     some_arguments(alloc, tokens, depth)
 }
 
+/// The arguments of a call, with the parentheses.
+#[tactic(auto, unfolding(crate::specs::Statements::arguments))]
+fn arguments<'a>(
+    alloc: Global,
+    tokens: &'a [CToken<'a>],
+    depth: u32,
+) -> Result<(Items<CExpr>, &'a [CToken<'a>]), ParseError>
+    ensures { Gives (λ x. (x.0, tokens_of x.1.now)) result (spec.arguments (expr_of depth) (tokens_of tokens.now)) }
+{
+    let rest = expect(tokens, Mark::Open)?;
+    let (all, rest) = listed_arguments(alloc, rest, depth)?;
+    let rest = expect(rest, Mark::Close)?;
+    Ok((all, rest))
+}
+
 /// A call, after its callee.
 #[tactic(auto, unfolding(crate::specs::Statements::call))]
 fn call<'a>(
@@ -99,11 +114,10 @@ fn call<'a>(
 ) -> Result<(CStatement, &'a [CToken<'a>]), ParseError>
     ensures { Gives (λ x. (x.0, tokens_of x.1.now)) result (spec.call (expr_of depth) into callee (tokens_of tokens.now)) }
 {
-    let rest = expect(tokens, Mark::Open)?;
-    let (arguments, rest) = listed_arguments(alloc, rest, depth)?;
-    let rest = expect(rest, Mark::Close)?;
+    let (all, rest) = arguments(alloc, tokens, depth)?;
+    let call = CStatement::call(into, callee, all);
     let rest = expect(rest, Mark::Semicolon)?;
-    Ok((CStatement::call(into, callee, arguments), rest))
+    Ok((call, rest))
 }
 
 /// `(* pointer)`, as a callee.
@@ -117,8 +131,7 @@ fn indirect<'a>(
 {
     let rest = expect(tokens, Mark::Open)?;
     let rest = expect(rest, Mark::Star)?;
-    let (pointer, rest) = expr(alloc, rest, depth)?;
-    let rest = expect(rest, Mark::Close)?;
+    let (pointer, rest) = closed(alloc, rest, depth)?;
     Ok((CCallee::Indirect(pointer), rest))
 }
 
@@ -348,6 +361,19 @@ fn placed<'a>(
     labelled(tokens, label_of(place))
 }
 
+/// An expression in parentheses, as a test.
+#[tactic(auto, unfolding(crate::specs::Statements::enclosed))]
+fn enclosed<'a>(
+    alloc: Global,
+    tokens: &'a [CToken<'a>],
+    depth: u32,
+) -> Result<(CExpr, &'a [CToken<'a>]), ParseError>
+    ensures { Gives (λ x. (x.0, tokens_of x.1.now)) result (spec.enclosed (expr_of depth) (tokens_of tokens.now)) }
+{
+    let rest = expect(tokens, Mark::Open)?;
+    closed(alloc, rest, depth)
+}
+
 #[tactic(auto, unfolding(crate::specs::Statements::free))]
 fn free<'a>(
     alloc: Global,
@@ -357,9 +383,7 @@ fn free<'a>(
     ensures { Gives (λ x. (x.0, tokens_of x.1.now)) result (spec.free (expr_of depth) (tokens_of tokens.now)) }
 {
     let rest = expect_word(tokens, Word::Free)?;
-    let rest = expect(rest, Mark::Open)?;
-    let (pointer, rest) = expr(alloc, rest, depth)?;
-    let rest = expect(rest, Mark::Close)?;
+    let (pointer, rest) = enclosed(alloc, rest, depth)?;
     let rest = expect(rest, Mark::Semicolon)?;
     Ok((CStatement::free(pointer), rest))
 }
@@ -373,9 +397,7 @@ fn put_char<'a>(
     ensures { Gives (λ x. (x.0, tokens_of x.1.now)) result (spec.put_char (expr_of depth) (tokens_of tokens.now)) }
 {
     let rest = expect_word(tokens, Word::PutChar)?;
-    let rest = expect(rest, Mark::Open)?;
-    let (value, rest) = expr(alloc, rest, depth)?;
-    let rest = expect(rest, Mark::Close)?;
+    let (value, rest) = enclosed(alloc, rest, depth)?;
     let rest = expect(rest, Mark::Semicolon)?;
     Ok((CStatement::put_char(value), rest))
 }
@@ -456,21 +478,6 @@ fn simple<'a>(
         return return_value(alloc, tokens, depth);
     }
     by_place(alloc, tokens, depth)
-}
-
-/// The test of an `if` or a `while`.
-#[tactic(auto, unfolding(crate::specs::Statements::tested))]
-fn test<'a>(
-    alloc: Global,
-    tokens: &'a [CToken<'a>],
-    depth: u32,
-) -> Result<(CExpr, &'a [CToken<'a>]), ParseError>
-    ensures { Gives (λ x. (x.0, tokens_of x.1.now)) result (spec.tested (expr_of depth) (tokens_of tokens.now)) }
-{
-    let rest = expect(tokens, Mark::Open)?;
-    let (test, rest) = expr(alloc, rest, depth)?;
-    let rest = expect(rest, Mark::Close)?;
-    Ok((test, rest))
 }
 
 /// A statement, behind those before it.
@@ -555,7 +562,7 @@ fn conditional<'a>(
     ensures { Gives (λ x. (x.0, tokens_of x.1.now)) result (spec.conditional (expr_of depth) (spec.statement depth) (tokens_of tokens.now)) }
 {
     let rest = expect_word(tokens, Word::If)?;
-    let (test, rest) = test(alloc, rest, depth)?;
+    let (test, rest) = enclosed(alloc, rest, depth)?;
     let (first, rest) = body(alloc, rest, depth)?;
     if is_word(rest, Word::Else) {
         return otherwise(alloc, rest, depth, test, first);
@@ -573,7 +580,7 @@ fn while_loop<'a>(
     ensures { Gives (λ x. (x.0, tokens_of x.1.now)) result (spec.while_loop (expr_of depth) (spec.statement depth) (tokens_of tokens.now)) }
 {
     let rest = expect_word(tokens, Word::While)?;
-    let (test, rest) = test(alloc, rest, depth)?;
+    let (test, rest) = enclosed(alloc, rest, depth)?;
     let (all, rest) = body(alloc, rest, depth)?;
     Ok((CStatement::while_do(test, all), rest))
 }

@@ -8,20 +8,23 @@ use Rattle.c_parser.proofs.expressions.+descent.Given as goal
 abbrev pub decreases-expr : goal.decreases-expr
 decreases-expr l = 16 * l.depth + 0
 
+abbrev pub decreases-closed : goal.decreases-closed
+decreases-closed l = 16 * l.depth + 1
+
 abbrev pub decreases-element : goal.decreases-element
 decreases-element l = 16 * l.depth + 1
 
 abbrev pub decreases-pointee : goal.decreases-pointee
-decreases-pointee l = 16 * l.depth + 1
+decreases-pointee l = 16 * l.depth + 2
 
 abbrev pub decreases-unary : goal.decreases-unary
-decreases-unary l = 16 * l.depth + 1
+decreases-unary l = 16 * l.depth + 2
 
 abbrev pub decreases-binary : goal.decreases-binary
-decreases-binary l = 16 * l.depth + 1
+decreases-binary l = 16 * l.depth + 2
 
 abbrev pub decreases-cast : goal.decreases-cast
-decreases-cast l = 16 * l.depth + 1
+decreases-cast l = 16 * l.depth + 2
 
 abbrev pub decreases-selected : goal.decreases-selected
 decreases-selected l = 16 * l.depth + 2
@@ -30,7 +33,7 @@ abbrev pub decreases-selectors : goal.decreases-selectors
 decreases-selectors l = 16 * l.depth + 3
 
 abbrev pub decreases-base_place : goal.decreases-base_place
-decreases-base_place l = 16 * l.depth + 2
+decreases-base_place l = 16 * l.depth + 3
 
 abbrev pub decreases-place : goal.decreases-place
 decreases-place l = 16 * l.depth + 4
