@@ -1,6 +1,7 @@
 use p2c_outside::{Failed, FileFault, Files, RealFiles, Sink, Source, StdSink, StdSource};
 use std::alloc::{AllocError, Global};
 use std::io::{ErrorKind, Read, Write};
+use std::process::Abort;
 use std::test::Fail;
 use std::{fs, io, process};
 
@@ -134,6 +135,20 @@ fn a_put_writes_the_whole_piece_or_fails(rt: HostRuntime) -> Result<(), Fail> {
     Ok(())
 }
 
+/// Reads from these places on, one after another, and what each read is to give.
+fn check_reads<F: Files>(
+    rt: &(impl Abort + AllocGlobal),
+    files: &mut F,
+    name: &str,
+    reads: &[(u64, &'static [u8])],
+) -> Result<(), Fail> {
+    for (at, want) in reads {
+        let given = read_from(rt.alloc(), files, name, *at)?;
+        assert_eq!(rt; given.as_slice(), *want, "{name} at {at}");
+    }
+    Ok(())
+}
+
 /// Two files are read by turns, on from where the last read ended and from other places; what is no
 /// file and what is not there is a fault, and the next read goes on.
 #[test]
@@ -141,32 +156,28 @@ fn real_files_are_read_and_the_rest_is_a_fault(rt: HostRuntime) -> Result<(), Fa
     let number = process::id(rt.process());
     let first = format!(in rt.alloc(); "/tmp/p2c_reads_{number}_first")?;
     let second = format!(in rt.alloc(); "/tmp/p2c_reads_{number}_second")?;
-    let (first, second) = (first.as_str(), second.as_str());
-    fs::write(&rt, first, b"hello world")?;
-    fs::write(&rt, second, b"again")?;
+    fs::write(&rt, first.as_str(), b"hello world")?;
+    fs::write(&rt, second.as_str(), b"again")?;
     let mut files = RealFiles::new(&rt, rt.alloc());
-    for (name, at, want) in [
-        (first, 0, b"hell".as_slice()),
-        (first, 4, b"o wo".as_slice()),
-        (first, 8, b"rld".as_slice()),
-        (first, 11, b"".as_slice()),
-        (first, 11, b"".as_slice()),
-        (second, 0, b"agai".as_slice()),
-        (first, 4, b"o wo".as_slice()),
-        (second, 4, b"n".as_slice()),
-        ("/", 0, b"!".as_slice()),
-        ("/no such file", 0, b"?".as_slice()),
-        ("", 0, b"?".as_slice()),
-        (second, u64::MAX, b"!".as_slice()),
-        (second, 1, b"gain".as_slice()),
-        (second, 1, b"gain".as_slice()),
-    ] {
-        let given = read_from(rt.alloc(), &mut files, name, at)?;
-        assert_eq!(rt; given.as_slice(), want, "{name} at {at}");
-    }
+    let on: [(u64, &'static [u8]); 5] = [
+        (0, b"hell"),
+        (4, b"o wo"),
+        (8, b"rld"),
+        (11, b""),
+        (11, b""),
+    ];
+    check_reads(&rt, &mut files, first.as_str(), &on)?;
+    check_reads(&rt, &mut files, second.as_str(), &[(0, b"agai")])?;
+    check_reads(&rt, &mut files, first.as_str(), &[(4, b"o wo")])?;
+    check_reads(&rt, &mut files, second.as_str(), &[(4, b"n")])?;
+    check_reads(&rt, &mut files, "/", &[(0, b"!")])?;
+    check_reads(&rt, &mut files, "/no such file", &[(0, b"?")])?;
+    check_reads(&rt, &mut files, "", &[(0, b"?")])?;
+    let other: [(u64, &'static [u8]); 3] = [(u64::MAX, b"!"), (1, b"gain"), (1, b"gain")];
+    check_reads(&rt, &mut files, second.as_str(), &other)?;
     assert_eq!(rt; files.missing, 2);
     assert_eq!(rt; files.faults, 2);
-    fs::remove_file(&rt, first)?;
-    fs::remove_file(&rt, second)?;
+    fs::remove_file(&rt, first.as_str())?;
+    fs::remove_file(&rt, second.as_str())?;
     Ok(())
 }
