@@ -23,13 +23,24 @@ module _ {B : Type 0} (child : Parser Token Expr) (f : Expr → Parser Token B) 
   unfolding closed
   closed_then = closed_by (child s) f
 
+-- the same before a semicolon too
+ended_by : {A B : Type 0} (o : Outcome Token A) (f : A → Parser Token B)
+    → and_then (and_then o (λ a s. and_then (expect mark.Close s) (λ _ s. and_then (expect mark.Semicolon s) (λ _ s. Ok (a, s))))) f ≡ and_then o (λ a s. and_then (expect mark.Close s) (λ _ s. and_then (expect mark.Semicolon s) (λ _ s. f a s)))
+ended_by (Ok p) f = by (expect mark.Close p.1)
+  where
+    by : (c : Outcome Token (Unit {0})) → and_then (and_then c (λ _ s. and_then (expect mark.Semicolon s) (λ _ s. Ok (p.0, s)))) f ≡ and_then c (λ _ s. and_then (expect mark.Semicolon s) (λ _ s. f p.0 s))
+    by (Ok q) = then_then (expect mark.Semicolon q.1) (λ _ s. Ok (p.0, s)) f
+    by (Err e) = refl
+ended_by (Err e) f = refl
+
 module _ {B : Type 0} (child : Parser Token Expr) (f : List Expr → Parser Token B) (s : List Token) where
-  arguments_then : and_then (arguments child s) f ≡ and_then (expect mark.Open s) (λ _ s. and_then (listed_arguments child s) (λ all s. and_then (expect mark.Close s) (λ _ s. f all s)))
+  arguments_then : and_then (arguments child s) f ≡ and_then (expect mark.Open s) (λ _ s. and_then (listed_arguments child s) (λ all s. and_then (expect mark.Close s) (λ _ s. and_then (expect mark.Semicolon s) (λ _ s. f all s))))
   unfolding arguments
   arguments_then = by (expect mark.Open s)
     where
-      by : (o : Outcome Token (Unit {0})) → and_then (and_then o (λ _ s. and_then (listed_arguments child s) (λ all s. and_then (expect mark.Close s) (λ _ s. Ok (all, s))))) f ≡ and_then o (λ _ s. and_then (listed_arguments child s) (λ all s. and_then (expect mark.Close s) (λ _ s. f all s)))
-      by (Ok p) = closed_by (listed_arguments child p.1) f
+      by : (o : Outcome Token (Unit {0})) → and_then (and_then o (λ _ s. and_then (listed_arguments child s) (λ all s. and_then (expect mark.Close s) (λ _ s. and_then (expect mark.Semicolon s) (λ _ s. Ok (all, s)))))) f
+          ≡ and_then o (λ _ s. and_then (listed_arguments child s) (λ all s. and_then (expect mark.Close s) (λ _ s. and_then (expect mark.Semicolon s) (λ _ s. f all s))))
+      by (Ok p) = ended_by (listed_arguments child p.1) f
       by (Err e) = refl
 
 -- ---- of what is taken
@@ -49,7 +60,7 @@ pub fair_closed : {B : Type 0} {all : List Token} {Q : B → List Token → Type
 fair_closed {all} {Q} child s f h = subst (FairC all Q) (sym (closed_then child f s)) h
 
 pub fair_arguments : {B : Type 0} {all : List Token} {Q : B → List Token → Type 0} (child : Parser Token Expr) (s : List Token) (f : List Expr → Parser Token B)
-    → FairC all Q (and_then (expect mark.Open s) (λ _ s. and_then (listed_arguments child s) (λ items s. and_then (expect mark.Close s) (λ _ s. f items s)))) → FairC all Q (and_then (arguments child s) f)
+    → FairC all Q (and_then (expect mark.Open s) (λ _ s. and_then (listed_arguments child s) (λ items s. and_then (expect mark.Close s) (λ _ s. and_then (expect mark.Semicolon s) (λ _ s. f items s))))) → FairC all Q (and_then (arguments child s) f)
 fair_arguments {all} {Q} child s f h = subst (FairC all Q) (sym (arguments_then child f s)) h
 
 module _ {n : ℕ} {W B : Type 0} {y : B} {rest : List Token} (child : Parser Token Expr) (s : List Token) where
@@ -57,5 +68,5 @@ module _ {n : ℕ} {W B : Type 0} {y : B} {rest : List Token} (child : Parser To
   tracked_closed f h = subst (Tracked n W y rest) (sym (closed_then child f s)) h
 
   pub tracked_arguments : (f : List Expr → Parser Token B)
-      → Tracked n W y rest (and_then (expect mark.Open s) (λ _ s. and_then (listed_arguments child s) (λ items s. and_then (expect mark.Close s) (λ _ s. f items s)))) → Tracked n W y rest (and_then (arguments child s) f)
+      → Tracked n W y rest (and_then (expect mark.Open s) (λ _ s. and_then (listed_arguments child s) (λ items s. and_then (expect mark.Close s) (λ _ s. and_then (expect mark.Semicolon s) (λ _ s. f items s))))) → Tracked n W y rest (and_then (arguments child s) f)
   tracked_arguments f h = subst (Tracked n W y rest) (sym (arguments_then child f s)) h

@@ -16,9 +16,9 @@ use Rattle.c_grammar.specs.Types.{Known}
 use Rattle.c_grammar.specs.Demands.{Names, after, same, expr_demands, callee_demands, statement_demands, body_demands, listed_demands, own_labels, labels_of, program_demands}
 use Rattle.c_grammar.specs.Text.{Begins, MayBegin}
 use Rattle.c_grammar.proofs.Spelled.{count_more, next_follow, all_follow, expr_follow, place_follow, into_follow, callee_follow, body_follow}
-use Rattle.token_parsing.specs.Parser.{Parser, and_then, begins}
+use Rattle.token_parsing.specs.Parser.{Parser, begins}
 use Rattle.token_parsing.proofs.Fair.{At, reads, at_same, fair_then, fair_either, fair_repeat, fair_so, fair_refuse, fair_stop}
-use Rattle.c_parser.specs.Classes.{names, marks, words, expect}
+use Rattle.c_parser.specs.Classes.{names, marks, words}
 use Rattle.c_parser.specs.Expressions.{closed, expr}
 use Rattle.c_parser.specs.Statements.{next_argument, some_arguments, listed_arguments, call, indirect, callee, calls, malloc_opening, malloc, get_char, value, call_into, assigned, callee_of, label_of, called, labelled, placed, free, put_char, goto, returned, return_with, no_brace, next_statement, statements, body, enclosed, otherwise, conditional, while_loop, simple, statement_by, statement}
 use Rattle.c_parser.specs.Depth.{expr_depth, place_depth, into_depth, callee_depth, arguments_depth, value_depth, statement_depth, body_depth}
@@ -131,7 +131,7 @@ module _ (all : List Token) (formed : AreTokens all) (d : ℕ) (child : Parser T
       → At all (λ u. front (spell_into into (spell_callee c u))) s → IfSome into IsPlace → IsCallee c → into_depth into ≤ d → callee_depth c ≤ d → FairC all (ReadStatement all front (suc d)) (call child into c s)
   unfolding call
   call_fair level front into c s left law hole at isi isc deep deep' =
-      fair_arguments child s (λ items s. and_then (expect mark.Semicolon s) (λ _ s. Ok (Call into c items, s))) (mark_fair mark.Open s at (let f = hole (Call into c []) (isi, isc, tt) in begins_by at f (Sign mark.Open ∷ Sign mark.Close ∷ Sign mark.Semicolon ∷ f.more) refl) (λ _ r at1.
+      fair_arguments child s (λ items s. Ok (Call into c items, s)) (mark_fair mark.Open s at (let f = hole (Call into c []) (isi, isc, tt) in begins_by at f (Sign mark.Open ∷ Sign mark.Close ∷ Sign mark.Semicolon ∷ f.more) refl) (λ _ r at1.
       fair_then (listed_arguments_fair (suc level) (λ u. front (spell_into into (spell_callee c (Sign mark.Open ∷ u)))) r (omega arith) at1 (arguments_hole level into c law isi isc hole)) (λ items r (at2, each, deep'').
       let f = hole (Call into c items) (isi, isc, each) in
       mark_fair mark.Close r at2 (begins_by at2 f (Sign mark.Close ∷ Sign mark.Semicolon ∷ f.more) refl) (λ _ r at3.

@@ -127,11 +127,11 @@ module _ (child : Parser Token Expr) (h : Shrinks child) where
 
   pub enclosed_arguments_shrinks : Shrinks (arguments child)
   unfolding arguments
-  enclosed_arguments_shrinks = then_shrinks (one_shrinks _) (λ _. then_shrinks arguments_shrinks (λ all. then_shrinks (one_shrinks _) (λ _. pure_shrinks _)))
+  enclosed_arguments_shrinks = then_shrinks (one_shrinks _) (λ _. then_shrinks arguments_shrinks (λ all. then_shrinks (one_shrinks _) (λ _. then_shrinks (one_shrinks _) (λ _. pure_shrinks _))))
 
   pub call_shrinks : (into : Option Place) (c : CCallee) → Shrinks (call child into c)
   unfolding call
-  call_shrinks into c = then_shrinks enclosed_arguments_shrinks (λ all. then_shrinks (one_shrinks _) (λ _. pure_shrinks _))
+  call_shrinks into c = then_shrinks enclosed_arguments_shrinks (λ all. pure_shrinks _)
 
   pub callee_shrinks : Shrinks (callee child)
   unfolding callee indirect

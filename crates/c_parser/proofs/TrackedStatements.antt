@@ -12,9 +12,9 @@ use Rattle.c_grammar.specs.Token.{Token, Identifier, Quoted, Sign}
 use Rattle.c_grammar.specs.Spelling.{spell_all, spell_next, spell_listed, spell_expr, spell_place, spell_callee, spell_value, spell_statement, spell_body, spell_type, binary_mark}
 use Rattle.c_grammar.specs.Grammar.{IsExpr, IsPlace, IsCallee, IsStatement, IsBody}
 use Rattle.c_grammar.proofs.Spelled.{expr_follow}
-use Rattle.token_parsing.specs.Parser.{Parser, and_then, one_of, begins, rest, either}
+use Rattle.token_parsing.specs.Parser.{Parser, one_of, begins, rest, either}
 use Rattle.token_parsing.proofs.Tracked.{Shrinks, Short, relaxed, stops_short, short_then, Takes, Along, ended, last, longer, Tracked, too_deep, one_shrinks, pure_shrinks, then_shrinks, either_shrinks, repeat_shrinks, takes_token, takes_then, takes_either, along_split, same_begins, begun_short, short_tracked, other_text, track_first, track_second, track_then, track_pure, Item, Listing, track_list}
-use Rattle.c_parser.specs.Classes.{same_word, same_mark, names, words, marks, expect}
+use Rattle.c_parser.specs.Classes.{same_word, same_mark, names, words, marks}
 use Rattle.c_parser.specs.Expressions.{closed, pointee, variable, base_place, place, opened, read_variable, read_pointee, expr_by, expr}
 use Rattle.c_parser.specs.Statements.{next_argument, some_arguments, listed_arguments, call, indirect, callee, after_group, calls, malloc_opening, malloc, get_char, value, call_into, assigned, callee_of, called, placed, free, put_char, goto, returned, return_with, no_brace, next_statement, statements, body, enclosed, otherwise, conditional, while_loop, simple, statement_by, statement}
 use Rattle.c_parser.specs.Depth.{expr_depth, place_depth, callee_depth, arguments_depth, value_depth, statement_depth, body_depth}
@@ -150,7 +150,7 @@ module _ (n : ℕ) (W : Type 0) (d : ℕ) (child : Parser Token Expr) (shrinks :
       → Along n (Sign mark.Open ∷ spell_listed spell_expr all (Sign mark.Close ∷ Sign mark.Semicolon ∷ rest)) s → Tracked n W (Call into c all) rest (call child into c s)
   unfolding call
   call_tracked into c all is deep rest s h =
-      tracked_arguments child s (λ all s. and_then (expect mark.Semicolon s) (λ _ s. Ok (Call into c all, s))) (mark_tracked mark.Open h (λ _. then_shrinks (arguments_shrinks child shrinks) (λ _. then_shrinks (one_shrinks _) (λ _. then_shrinks (one_shrinks _) (λ _. pure_shrinks _)))) (λ r h.
+      tracked_arguments child s (λ all s. Ok (Call into c all, s)) (mark_tracked mark.Open h (λ _. then_shrinks (arguments_shrinks child shrinks) (λ _. then_shrinks (one_shrinks _) (λ _. then_shrinks (one_shrinks _) (λ _. pure_shrinks _)))) (λ r h.
       track_then (arguments_tracked all is deep (Sign mark.Semicolon ∷ rest) r h) (λ _. then_shrinks (one_shrinks _) (λ _. then_shrinks (one_shrinks _) (λ _. pure_shrinks _))) (λ r h.
       mark_tracked mark.Close h (λ _. then_shrinks (one_shrinks _) (λ _. pure_shrinks _)) (λ r h. mark_tracked mark.Semicolon h (λ _. pure_shrinks _) (λ r h. track_pure (Call into c all) h)))))
 

@@ -25,13 +25,12 @@ some_arguments expr = expr >>= λ a. repeat (begins (marks mark.Comma)) (next_ar
 unfoldable pub listed_arguments : Parser Token Expr → Parser Token (List Expr)
 listed_arguments expr = either (begins (marks mark.Close)) (pure []) (some_arguments expr)
 
--- "(" [Expr {"," Expr}] ")"
+-- "(" [Expr {"," Expr}] ")" ";"
 unfoldable pub arguments : Parser Token Expr → Parser Token (List Expr)
-arguments expr = expect mark.Open >>= λ _. listed_arguments expr >>= λ all. expect mark.Close >>= λ _. pure all
+arguments expr = expect mark.Open >>= λ _. listed_arguments expr >>= λ all. expect mark.Close >>= λ _. expect mark.Semicolon >>= λ _. pure all
 
--- the arguments and ";"
 unfoldable pub call : Parser Token Expr → Option Place → CCallee → Parser Token Statement
-call expr into callee = arguments expr >>= λ all. expect mark.Semicolon >>= λ _. pure (Call into callee all)
+call expr into callee = arguments expr >>= λ all. pure (Call into callee all)
 
 unfoldable pub indirect : Parser Token Expr → Parser Token CCallee
 indirect expr = expect mark.Open >>= λ _. expect mark.Star >>= λ _. closed expr >>= λ a. pure (Indirect a)

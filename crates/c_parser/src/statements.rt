@@ -88,7 +88,7 @@ fn listed_arguments<'a>(
     some_arguments(alloc, tokens, depth)
 }
 
-/// The arguments of a call, with the parentheses.
+/// The arguments of a call, with the parentheses and the semicolon.
 #[tactic(auto, unfolding(crate::specs::Statements::arguments))]
 fn arguments<'a>(
     alloc: Global,
@@ -100,6 +100,7 @@ fn arguments<'a>(
     let rest = expect(tokens, Mark::Open)?;
     let (all, rest) = listed_arguments(alloc, rest, depth)?;
     let rest = expect(rest, Mark::Close)?;
+    let rest = expect(rest, Mark::Semicolon)?;
     Ok((all, rest))
 }
 
@@ -115,9 +116,7 @@ fn call<'a>(
     ensures { Gives (λ x. (x.0, tokens_of x.1.now)) result (spec.call (expr_of depth) into callee (tokens_of tokens.now)) }
 {
     let (all, rest) = arguments(alloc, tokens, depth)?;
-    let call = CStatement::call(into, callee, all);
-    let rest = expect(rest, Mark::Semicolon)?;
-    Ok((call, rest))
+    Ok((CStatement::call(into, callee, all), rest))
 }
 
 /// `(* pointer)`, as a callee.
