@@ -5,11 +5,8 @@ pub mod Calling
 pub mod Marking
 pub mod Leaving
 pub mod Entering
-pub mod Running
-pub mod Statuses
 pub mod Stepping
 pub mod Seeking
-pub mod Machining
 pub mod Resolving
 pub mod Noting
 pub mod Coding

@@ -4,7 +4,6 @@ pub mod Runners
 pub mod Calls
 pub mod Marks
 pub mod Leaving
-pub mod Machines
 pub mod Codes
 pub mod Quick
 pub mod QuickCalls

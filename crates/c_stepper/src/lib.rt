@@ -1,22 +1,20 @@
-//! The runner of C programs.
+//! The runner of C programs: their frames and their memory.
 //!
-//! A `Machine` does one step after another of a program, each as the meaning of C does it, with
-//! pieces of input and output of 4,096 bytes; `run` does at most so many steps.
+//! A `Runner` stands at a statement of a program. `Runner::step` does that statement as the meaning of
+//! C does it, `Runner::read` a `getchar` with a given byte; `quick_steps` and `Runner::quick_change` do
+//! statements of which numbers alone say what they do.
 #![tactic(auto)]
 
-mod act;
+pub mod act;
 mod call;
 mod frames;
 mod guide;
 mod leave;
-mod machine;
 mod names;
-mod quick;
+pub mod quick;
 mod quick_call;
 mod quick_change;
 mod quick_return;
 mod resolved;
-mod runner;
+pub mod runner;
 mod spot;
-
-pub use machine::{Ended, Machine, Stepped, run};

@@ -62,6 +62,7 @@ result_variable (Some v) = v ∷ []
 unfoldable pub own_variables : RoutineCode → List VarDecl
 own_variables r = result_variable r.result ++ r.locals
 
+-- whether an argument is of the kind of a parameter
 unfoldable pub is_of_kind : FormalKind → Passed → Bool
 is_of_kind (ValueKind type) (ByValue t) = true
 is_of_kind (VariableKind type) (ByReference r) = true
@@ -70,7 +71,7 @@ is_of_kind (VariableKind type) _ = false
 is_of_kind procedural (ByRoutine c) = true
 is_of_kind procedural _ = false
 
--- the arguments begin with those of a section
+-- the arguments after those of a section
 unfoldable pub after_section : FormalKind → List ℕ → List Passed → Checked (List Passed)
 after_section kind [] args = Passes args
 after_section kind (d ∷ ds) [] = Misfits

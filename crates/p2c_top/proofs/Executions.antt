@@ -5,9 +5,9 @@ use Rattle.c_grammar.specs.declared.fault.CTextKind.{CTextKind}
 use Rattle.c_reader.specs.Read.{IsFault, IsNoText}
 use Rattle.c_reader.specs.declared.fault.CTextFault.{CTextFault}
 use Rattle.c_reader.specs.declared.fault.CTextFault.TheVariants as fault
-use Rattle.c_stepper.specs.Machines.{RunFaults, HasStatus, told}
-use Rattle.c_stepper.specs.declared.machine.Ended as e
-use Rattle.c_stepper.specs.declared.machine.Ended.TheVariants as ended
+use Rattle.c_machine.specs.Machines.{RunFaults, HasStatus, told}
+use Rattle.c_machine.specs.declared.machine.Ended as e
+use Rattle.c_machine.specs.declared.machine.Ended.TheVariants as ended
 use Rattle.p2c_outside.specs.Counts.{Rose}
 use Rattle.p2c_outside.specs.Told.{Named, WhereTold, Gains}
 use Rattle.run_core.specs.Answers.{IsRun}

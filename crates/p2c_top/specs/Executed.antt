@@ -4,11 +4,11 @@ use Rattle.c_tree.specs.declared.program.CProgram.{CProgram}
 use Rattle.c_grammar.specs.Text.{CText}
 use Rattle.c_meaning.specs.Runs.{CAnswer, Going, End, CRun}
 use Rattle.c_meaning.specs.Runs as run
-use Rattle.c_stepper.specs.Machines.{CutShort, PutBeforeTaken, Ran, TakesFew, told}
+use Rattle.c_machine.specs.Machines.{CutShort, PutBeforeTaken, Ran, TakesFew, told}
 use Rattle.c_reader.specs.declared.fault.CTextFault.{CTextFault}
 use Rattle.c_reader.specs.declared.fault.CTextFault.TheVariants as fault
-use Rattle.c_stepper.specs.declared.machine.Ended as e
-use Rattle.c_stepper.specs.declared.machine.Ended.TheVariants as ended
+use Rattle.c_machine.specs.declared.machine.Ended as e
+use Rattle.c_machine.specs.declared.machine.Ended.TheVariants as ended
 use Rattle.p2c_outside.specs.Told.{Named, WhereTold, Gains}
 use Rattle.p2c_top.specs.Messages.{status_of}
 use Rattle.p2c_top.specs.Words.{Running, task_asked}

@@ -173,7 +173,7 @@ unfoldable pub index_spot : ℕ → ℕ → Spot → Tree → Prog Spot
 index_spot array t p index = of_types (λ types. reach_of types (type_at types array)) >>= λ reach. bounds_of reach p >>= λ r.
     check (λ types. number_of index &> λ z. in_range (Some r) z) >>= λ z. pure (component p t (unsigned_abs (z -ℤ origin reach)))
 
--- a pointer, followed or not
+-- a pointer, nil or not
 unfoldable pub pointer_of : Tree → Checked Tree
 pointer_of NilPointer = Passes NilPointer
 pointer_of (HeapNumber h) = Passes (HeapNumber h)

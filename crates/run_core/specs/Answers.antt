@@ -2,8 +2,8 @@
 use Rattle.std.specs.Prelude.{◌≡◌, ℕ, List, Option, Some}
 use Rattle.c_tree.specs.declared.program.CProgram.{CProgram}
 use Rattle.c_grammar.specs.Text.{CText}
-use Rattle.c_stepper.specs.Machines.{PutBeforeTaken, Ran, TakesFew}
-use Rattle.c_stepper.specs.declared.machine.Ended.{Ended}
+use Rattle.c_machine.specs.Machines.{PutBeforeTaken, Ran, TakesFew}
+use Rattle.c_machine.specs.declared.machine.Ended.{Ended}
 
 -- the bytes are a text, and where the input is told its program was run for at most so many steps
 pub record IsRun (bytes : List ℕ) (steps : ℕ) (input input' written written' : Option (List ℕ)) (ended : Ended) : Type 0 where

@@ -1,11 +1,11 @@
 //! Running a text.
 ghost use Rattle.std.specs.Prelude.{◌≡◌, ◌≤◌, IfErr, IfOk, length};
 ghost use Rattle.c_reader.specs.Read.{IsFault};
-ghost use Rattle.c_stepper.specs.Machines.{RunFaults, HasStatus};
+ghost use Rattle.c_machine.specs.Machines.{RunFaults, HasStatus};
 ghost use Rattle.run_core.specs.Answers.{IsRun};
 
+use c_machine::{Ended, run};
 use c_reader::{CTextFault, LONGEST_INPUT, read};
-use c_stepper::{Ended, run};
 use p2c_outside::{Sink, Source};
 use std::alloc::Global;
 

@@ -3,7 +3,7 @@
 
 use anyhow::{Result, anyhow};
 use c_reader::{CTextFault, LONGEST_INPUT, read};
-use c_stepper::{Ended, run};
+use c_machine::{Ended, run};
 use c_tree::program::CProgram;
 use p2c_outside::{CalmSink, CalmSource};
 use std::{env, fs};

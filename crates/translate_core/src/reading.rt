@@ -96,7 +96,7 @@ pub fn trees(
     let mut left = lists;
     while let Some((text, after)) = rest.split_first() {
         let Some((list, more)) = left.split_first() else {
-            return Ok(all);
+            unreachable!()
         };
         all.push(parsed(alloc, dialect, text, list)?)?;
         rest = after;

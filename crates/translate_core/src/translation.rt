@@ -33,7 +33,7 @@ fn written(alloc: Global, dialect: Dialect, trees: &[SourceFile]) -> Result<Vec<
     ensures err { IfErr result (WritingRefuses dialect trees.now) }
 {
     match trees {
-        [] => Ok(Vec::new(alloc)),
+        [] => unreachable!(),
         [file, more @ ..] => match written_by_file(alloc, dialect, file) {
             Ok(bytes) => match more {
                 [] => Ok(bytes),

@@ -35,7 +35,7 @@ fn play_file(rt: &HostRuntime, name: &str) -> Result<()> {
     let rows = rows_of(rt.alloc(), text.as_str())?;
     let mut differ = 0u64;
     for row in &rows {
-        let played = play(rt.alloc(), row)?;
+        let played = play(rt, row)?;
         if !played.is_wanted(row) {
             differ = differ.saturating_add(1);
             tell(rt, row, &played)?;

@@ -1,8 +1,10 @@
 //! A row played on devices in memory.
 
+ghost use Rattle.std.specs.Prelude.{◌≤◌};
+
 use crate::row::Row;
 use anyhow::Result;
-use p2c_outside::{MemoryFiles, MemorySink, MemorySource};
+use p2c_outside::{Files, MemoryFiles, MemorySink, MemorySource, RealFiles};
 use p2c_text::Text;
 use p2c_top::{Words, p2c};
 use std::alloc::{AllocError, Global};
@@ -72,19 +74,30 @@ fn input_of(alloc: Global, row: &Row, most: usize) -> Result<MemorySource, Alloc
     })
 }
 
-/// Calls the top call as the row says.
-pub fn play(alloc: Global, row: &Row) -> Result<Played> {
-    let most = row.piece.max(1);
+/// Calls the top call with these files, and otherwise as the row says.
+fn play_over<F: Files>(alloc: Global, row: &Row, files: &mut F, most: usize) -> Result<Played>
+    requires { 1 ≤ most }
+{
     let words = words_of(alloc, row)?;
-    let mut files = files_of(alloc, row, most)?;
     let mut input = input_of(alloc, row, most)?;
     let fail = vec![in alloc; row.failing.put]?;
     let mut out = MemorySink::new(alloc, ROOM, most, fail)?;
     let mut err = MemorySink::new(alloc, ROOM, 7, Vec::new(alloc))?;
-    let status = p2c(alloc, &words, &mut files, &mut input, &mut out, &mut err);
+    let status = p2c(alloc, &words, files, &mut input, &mut out, &mut err);
     Ok(Played {
         status,
         error: err.bytes,
         output: out.bytes,
     })
+}
+
+/// Calls the top call as the row says.
+pub fn play(rt: &HostRuntime, row: &Row) -> Result<Played> {
+    let alloc = rt.alloc();
+    let most = row.piece.max(1);
+    if row.real {
+        play_over(alloc, row, &mut RealFiles::new(rt, alloc), most)
+    } else {
+        play_over(alloc, row, &mut files_of(alloc, row, most)?, most)
+    }
 }

@@ -152,6 +152,7 @@ impl Reading {
                 row.add_file(alloc, rest)?;
                 self.place = Place::File;
             }
+            "real" => row.real = true,
             "input" => self.place = Place::Input,
             "error" => self.place = Place::Error,
             "output" => self.place = Place::Output,

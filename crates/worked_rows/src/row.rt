@@ -30,6 +30,8 @@ pub struct Row {
     /// The words after the program's name, with a space between each two.
     pub words: String,
     pub files: Vec<Text>,
+    /// Whether the files are those of the folder in which the program runs, which tell nothing.
+    pub real: bool,
     pub input: Vec<u8>,
     /// The most bytes that one call of the files, the input and the output moves.
     pub piece: usize,
@@ -45,6 +47,7 @@ impl Row {
             name,
             words: String::new(alloc),
             files: Vec::new(alloc),
+            real: false,
             input: Vec::new(alloc),
             piece: 4096,
             failing: Failing {

@@ -80,7 +80,7 @@ written_argument : IsMalformed [] (procedure 1 Program (section integer (1 ∷ [
 unfolding run
 written_argument = (refl, (refl, (refl, (refl, tt))))
 
--- procedure p; begin end; begin write('x'); write(p) end.
+-- procedure p; begin end; begin write(p) end.
 value_of_a_procedure : InEach (Iso ∷ Hp ∷ []) (λ d. whole d [] (procedure 1 Program [] [] [] (S.Empty ∷ []) ∷ []) [] [] [] (perform call.Write (shown (call (CalleeRoutine 1) [] char) ∷ []) ∷ [])) [] 1 (MalformedAfter [] (1 ∷ []))
 unfolding run
 value_of_a_procedure = (refl, (refl, tt))
@@ -256,7 +256,7 @@ pointer_to_no_type = (refl, (refl, (refl, (refl, tt))))
 
 -- ---- what goes on
 
--- begin write('x'); try i := 1 recover write('no') end.
+-- begin write('x'); try i := 1 recover end.
 malformed_statement_in_a_try : IsMalformed [] [] [] (try (assign_to integer (variable 1 integer) [] (num 1) ∷ []) S.Empty)
 unfolding run
 malformed_statement_in_a_try = (refl, (refl, (refl, (refl, tt))))

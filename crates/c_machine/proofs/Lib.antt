@@ -1,0 +1,3 @@
+pub mod Machining
+pub mod Running
+pub mod Statuses

@@ -1,0 +1,2 @@
+program hello(output);
+begin writeln('hi') end.
