@@ -1,4 +1,5 @@
 pub mod Tokens
+pub mod Parsing
 pub mod Texts
 pub mod Layout
 pub mod Writing

@@ -1,12 +1,13 @@
 //! Labels and constants.
 ghost use Rattle.std.specs.Prelude.{◌≡◌};
-ghost use Rattle.token_parsing.specs.Parser.{Gives};
+ghost use Rattle.expr_parser.specs.Parsing.{Parses};
 ghost use Rattle.expr_parser.specs.Tokens.{seen};
 ghost use Rattle.expr_parser.specs.Dialects as dialects;
 ghost use Rattle.expr_parser.specs.Constants as spec;
 
 use crate::leaves::{bytes, optional_sign, value};
 use crate::operators::{after, is_sign};
+use crate::rows::{row_of, with_item};
 use crate::source::{Source, span_between};
 use crate::step::{expect, identifier, is, is_identifier, is_number, is_text, same};
 use dialect_lexer::{Symbol, Token};
@@ -38,7 +39,7 @@ fn named_label<'t>(
     source: &Source<'_>,
     tokens: &'t [Token],
 ) -> Result<(Label, &'t [Token]), ParseError>
-    ensures { Gives (λ x. (x.0, seen source.now.bytes.now x.1.now)) result (spec.named_label (seen source.now.bytes.now tokens.now)) }
+    ensures { Parses source.now tokens.now result spec.named_label }
 {
     let (name, rest) = identifier(source, tokens)?;
     Ok((Label::Name(name), rest))
@@ -49,7 +50,7 @@ fn number_label<'t>(
     source: &Source<'_>,
     tokens: &'t [Token],
 ) -> Result<(Label, &'t [Token]), ParseError>
-    ensures { Gives (λ x. (x.0, seen source.now.bytes.now x.1.now)) result (spec.number_label source.now.end (seen source.now.bytes.now tokens.now)) }
+    ensures { Parses source.now tokens.now result (spec.number_label source.now.end) }
 {
     let (value, rest) = value(source, tokens)?;
     let span = span_between(source, tokens, rest);
@@ -68,7 +69,7 @@ pub fn label<'t>(
     source: &Source<'_>,
     tokens: &'t [Token],
 ) -> Result<(Label, &'t [Token]), ParseError>
-    ensures { Gives (λ x. (x.0, seen source.now.bytes.now x.1.now)) result (spec.label source.now.dialect source.now.end (seen source.now.bytes.now tokens.now)) }
+    ensures { Parses source.now tokens.now result (spec.label source.now.dialect source.now.end) }
 {
     if is_named_label(source, tokens) {
         return named_label(source, tokens);
@@ -90,7 +91,7 @@ pub fn optional_label<'t>(
     source: &Source<'_>,
     tokens: &'t [Token],
 ) -> Result<(Option<Label>, &'t [Token]), ParseError>
-    ensures { Gives (λ x. (x.0, seen source.now.bytes.now x.1.now)) result (spec.optional_label source.now.dialect source.now.end (seen source.now.bytes.now tokens.now)) }
+    ensures { Parses source.now tokens.now result (spec.optional_label source.now.dialect source.now.end) }
 {
     if is_label(source, tokens) {
         let (label, rest) = label(source, tokens)?;
@@ -105,7 +106,7 @@ fn text_constant<'t>(
     source: &Source<'_>,
     tokens: &'t [Token],
 ) -> Result<(Constant, &'t [Token]), ParseError>
-    ensures { Gives (λ x. (x.0, seen source.now.bytes.now x.1.now)) result (spec.text_constant source.now.end (seen source.now.bytes.now tokens.now)) }
+    ensures { Parses source.now tokens.now result (spec.text_constant source.now.end) }
 {
     let (bytes, rest) = bytes(source, tokens)?;
     let span = span_between(source, tokens, rest);
@@ -119,7 +120,7 @@ fn name_constant<'t>(
     from: &[Token],
     sign: Option<Sign>,
 ) -> Result<(Constant, &'t [Token]), ParseError>
-    ensures { Gives (λ x. (x.0, seen source.now.bytes.now x.1.now)) result (spec.name_constant source.now.end (seen source.now.bytes.now from.now) sign (seen source.now.bytes.now tokens.now)) }
+    ensures { Parses source.now tokens.now result (spec.name_constant source.now.end (seen source.now.bytes.now from.now) sign) }
 {
     let (name, rest) = identifier(source, tokens)?;
     let span = span_between(source, from, rest);
@@ -133,7 +134,7 @@ fn number_constant<'t>(
     from: &[Token],
     sign: Option<Sign>,
 ) -> Result<(Constant, &'t [Token]), ParseError>
-    ensures { Gives (λ x. (x.0, seen source.now.bytes.now x.1.now)) result (spec.number_constant source.now.end (seen source.now.bytes.now from.now) sign (seen source.now.bytes.now tokens.now)) }
+    ensures { Parses source.now tokens.now result (spec.number_constant source.now.end (seen source.now.bytes.now from.now) sign) }
 {
     let (value, rest) = value(source, tokens)?;
     let span = span_between(source, from, rest);
@@ -148,7 +149,7 @@ fn unsigned_constant<'t>(
     from: &[Token],
     sign: Option<Sign>,
 ) -> Result<(Constant, &'t [Token]), ParseError>
-    ensures { Gives (λ x. (x.0, seen source.now.bytes.now x.1.now)) result (spec.unsigned_constant source.now.end (seen source.now.bytes.now from.now) sign (seen source.now.bytes.now tokens.now)) }
+    ensures { Parses source.now tokens.now result (spec.unsigned_constant source.now.end (seen source.now.bytes.now from.now) sign) }
 {
     if is_identifier(source, tokens) {
         return name_constant(source, tokens, from, sign);
@@ -161,7 +162,7 @@ fn signed_constant<'t>(
     source: &Source<'_>,
     tokens: &'t [Token],
 ) -> Result<(Constant, &'t [Token]), ParseError>
-    ensures { Gives (λ x. (x.0, seen source.now.bytes.now x.1.now)) result (spec.signed_constant source.now.end (seen source.now.bytes.now tokens.now)) }
+    ensures { Parses source.now tokens.now result (spec.signed_constant source.now.end) }
 {
     let (sign, rest) = optional_sign(source, tokens)?;
     unsigned_constant(source, rest, tokens, sign)
@@ -172,7 +173,7 @@ pub fn constant<'t>(
     source: &Source<'_>,
     tokens: &'t [Token],
 ) -> Result<(Constant, &'t [Token]), ParseError>
-    ensures { Gives (λ x. (x.0, seen source.now.bytes.now x.1.now)) result (spec.constant source.now.end (seen source.now.bytes.now tokens.now)) }
+    ensures { Parses source.now tokens.now result (spec.constant source.now.end) }
 {
     if is_text(source, tokens) {
         return text_constant(source, tokens);
@@ -203,7 +204,7 @@ fn optional_last<'t>(
     source: &Source<'_>,
     tokens: &'t [Token],
 ) -> Result<(Option<Constant>, &'t [Token]), ParseError>
-    ensures { Gives (λ x. (x.0, seen source.now.bytes.now x.1.now)) result (spec.optional_last source.now.dialect source.now.end (seen source.now.bytes.now tokens.now)) }
+    ensures { Parses source.now tokens.now result (spec.optional_last source.now.dialect source.now.end) }
 {
     if is_range(source, tokens) {
         let rest = expect(source, tokens, Symbol::DotDot)?;
@@ -219,7 +220,7 @@ pub fn case_label<'t>(
     source: &Source<'_>,
     tokens: &'t [Token],
 ) -> Result<(CaseLabel, &'t [Token]), ParseError>
-    ensures { Gives (λ x. (x.0, seen source.now.bytes.now x.1.now)) result (spec.case_label source.now.dialect source.now.end (seen source.now.bytes.now tokens.now)) }
+    ensures { Parses source.now tokens.now result (spec.case_label source.now.dialect source.now.end) }
 {
     let (first, rest) = constant(source, tokens)?;
     let (last, rest) = optional_last(source, rest)?;
@@ -234,13 +235,11 @@ fn next_case_label<'t>(
     tokens: &'t [Token],
     all: CaseLabels,
 ) -> Result<(CaseLabels, &'t [Token]), ParseError>
-    ensures { Gives (λ x. (x.0, seen source.now.bytes.now x.1.now)) result (spec.next_case_label source.now.dialect source.now.end all (seen source.now.bytes.now tokens.now)) }
+    ensures { Parses source.now tokens.now result (spec.next_case_label source.now.dialect source.now.end all) }
 {
-    let mut all = all;
     let rest = expect(source, tokens, Symbol::Comma)?;
     let (item, rest) = case_label(source, rest)?;
-    all.push(item)?;
-    Ok((all, rest))
+    Ok((with_item(all, item)?, rest))
 }
 
 /// The labels after the first.
@@ -249,7 +248,7 @@ fn more_case_labels<'t>(
     tokens: &'t [Token],
     first: CaseLabels,
 ) -> Result<(CaseLabels, &'t [Token]), ParseError>
-    ensures { Gives (λ x. (x.0, seen source.now.bytes.now x.1.now)) result (spec.more_case_labels source.now.dialect source.now.end first (seen source.now.bytes.now tokens.now)) }
+    ensures { Parses source.now tokens.now result (spec.more_case_labels source.now.dialect source.now.end first) }
 {
     let mut all = first;
     let mut rest = tokens;
@@ -270,10 +269,9 @@ pub fn case_labels<'t>(
     source: &Source<'_>,
     tokens: &'t [Token],
 ) -> Result<(CaseLabels, &'t [Token]), ParseError>
-    ensures { Gives (λ x. (x.0, seen source.now.bytes.now x.1.now)) result (spec.case_labels source.now.dialect source.now.end (seen source.now.bytes.now tokens.now)) }
+    ensures { Parses source.now tokens.now result (spec.case_labels source.now.dialect source.now.end) }
 {
     let (item, rest) = case_label(source, tokens)?;
-    let mut first = Items::new(source.alloc);
-    first.push(item)?;
+    let first = row_of(source.alloc, item)?;
     more_case_labels(source, rest, first)
 }

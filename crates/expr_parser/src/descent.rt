@@ -1,7 +1,7 @@
 //! Expressions, by recursive descent. `depth` is how many levels may still nest; an expression and
 //! its factors are two.
 ghost use Rattle.std.specs.Prelude.{◌≡◌};
-ghost use Rattle.token_parsing.specs.Parser.{Gives};
+ghost use Rattle.expr_parser.specs.Parsing.{Parses};
 ghost use Rattle.expr_parser.specs.Tokens.{seen};
 ghost use Rattle.expr_parser.specs.Places as places;
 ghost use Rattle.expr_parser.specs.Factors as factors;
@@ -11,6 +11,7 @@ use crate::leaves::{
     field, follow, is_program, is_selector, nil, number, optional_sign, program_arg, text,
 };
 use crate::operators::{adding, is_adding, is_multiplying, is_relation, multiplying, relation};
+use crate::rows::{row_of, with_item};
 use crate::source::{Source, span_between};
 use crate::step::{
     expect, expect_word, identifier, is, is_identifier, is_number, is_text, is_word, same,
@@ -32,7 +33,7 @@ fn optional_after<'t>(
     depth: u32,
     mark: Symbol,
 ) -> Result<(Option<Boxed<Expr>>, &'t [Token]), ParseError>
-    ensures { Gives (λ x. (x.0, seen source.now.bytes.now x.1.now)) result (places.optional_after mark (expressions.expr source.now.dialect source.now.end depth) (seen source.now.bytes.now tokens.now)) }
+    ensures { Parses source.now tokens.now result (places.optional_after mark (expressions.expr source.now.dialect source.now.end depth)) }
 {
     if is(source, tokens, mark) {
         let rest = expect(source, tokens, mark)?;
@@ -51,13 +52,11 @@ fn next_expr<'t>(
     depth: u32,
     all: Items<Expr>,
 ) -> Result<(Items<Expr>, &'t [Token]), ParseError>
-    ensures { Gives (λ x. (x.0, seen source.now.bytes.now x.1.now)) result (places.next_expr (expressions.expr source.now.dialect source.now.end depth) all (seen source.now.bytes.now tokens.now)) }
+    ensures { Parses source.now tokens.now result (places.next_expr (expressions.expr source.now.dialect source.now.end depth) all) }
 {
-    let mut all = all;
     let rest = expect(source, tokens, Symbol::Comma)?;
     let (item, rest) = expr(source, rest, depth)?;
-    all.push(item)?;
-    Ok((all, rest))
+    Ok((with_item(all, item)?, rest))
 }
 
 /// The expressions after the first.
@@ -68,7 +67,7 @@ fn more_exprs<'t>(
     depth: u32,
     first: Items<Expr>,
 ) -> Result<(Items<Expr>, &'t [Token]), ParseError>
-    ensures { Gives (λ x. (x.0, seen source.now.bytes.now x.1.now)) result (places.more_exprs (expressions.expr source.now.dialect source.now.end depth) first (seen source.now.bytes.now tokens.now)) }
+    ensures { Parses source.now tokens.now result (places.more_exprs (expressions.expr source.now.dialect source.now.end depth) first) }
 {
     let mut all = first;
     let mut rest = tokens;
@@ -91,11 +90,10 @@ fn exprs<'t>(
     tokens: &'t [Token],
     depth: u32,
 ) -> Result<(Items<Expr>, &'t [Token]), ParseError>
-    ensures { Gives (λ x. (x.0, seen source.now.bytes.now x.1.now)) result (places.exprs (expressions.expr source.now.dialect source.now.end depth) (seen source.now.bytes.now tokens.now)) }
+    ensures { Parses source.now tokens.now result (places.exprs (expressions.expr source.now.dialect source.now.end depth)) }
 {
     let (item, rest) = expr(source, tokens, depth)?;
-    let mut first = Items::new(source.alloc);
-    first.push(item)?;
+    let first = row_of(source.alloc, item)?;
     more_exprs(source, rest, depth, first)
 }
 
@@ -107,7 +105,7 @@ fn index<'t>(
     tokens: &'t [Token],
     depth: u32,
 ) -> Result<(Selector, &'t [Token]), ParseError>
-    ensures { Gives (λ x. (x.0, seen source.now.bytes.now x.1.now)) result (places.index source.now.end (expressions.expr source.now.dialect source.now.end depth) (seen source.now.bytes.now tokens.now)) }
+    ensures { Parses source.now tokens.now result (places.index source.now.end (expressions.expr source.now.dialect source.now.end depth)) }
 {
     let rest = expect(source, tokens, Symbol::OpenBracket)?;
     let (indexes, rest) = exprs(source, rest, depth)?;
@@ -123,7 +121,7 @@ fn selected<'t>(
     tokens: &'t [Token],
     depth: u32,
 ) -> Result<(Selector, &'t [Token]), ParseError>
-    ensures { Gives (λ x. (x.0, seen source.now.bytes.now x.1.now)) result (places.selected source.now.end (expressions.expr source.now.dialect source.now.end depth) (seen source.now.bytes.now tokens.now)) }
+    ensures { Parses source.now tokens.now result (places.selected source.now.end (expressions.expr source.now.dialect source.now.end depth)) }
 {
     if is(source, tokens, Symbol::Dot) {
         return field(source, tokens);
@@ -143,12 +141,10 @@ fn next_selector<'t>(
     depth: u32,
     all: Items<Selector>,
 ) -> Result<(Items<Selector>, &'t [Token]), ParseError>
-    ensures { Gives (λ x. (x.0, seen source.now.bytes.now x.1.now)) result (places.next_selector source.now.end (expressions.expr source.now.dialect source.now.end depth) all (seen source.now.bytes.now tokens.now)) }
+    ensures { Parses source.now tokens.now result (places.next_selector source.now.end (expressions.expr source.now.dialect source.now.end depth) all) }
 {
-    let mut all = all;
     let (item, rest) = selected(source, tokens, depth)?;
-    all.push(item)?;
-    Ok((all, rest))
+    Ok((with_item(all, item)?, rest))
 }
 
 /// Selectors, as many as there are.
@@ -159,7 +155,7 @@ fn selectors<'t>(
     depth: u32,
     first: Items<Selector>,
 ) -> Result<(Items<Selector>, &'t [Token]), ParseError>
-    ensures { Gives (λ x. (x.0, seen source.now.bytes.now x.1.now)) result (places.selectors source.now.end (expressions.expr source.now.dialect source.now.end depth) first (seen source.now.bytes.now tokens.now)) }
+    ensures { Parses source.now tokens.now result (places.selectors source.now.end (expressions.expr source.now.dialect source.now.end depth) first) }
 {
     let mut all = first;
     let mut rest = tokens;
@@ -184,7 +180,7 @@ pub fn place_from<'t>(
     from: &[Token],
     name: Identifier,
 ) -> Result<(Place, &'t [Token]), ParseError>
-    ensures { Gives (λ x. (x.0, seen source.now.bytes.now x.1.now)) result (places.place_from source.now.end (expressions.expr source.now.dialect source.now.end depth) (seen source.now.bytes.now from.now) name (seen source.now.bytes.now tokens.now)) }
+    ensures { Parses source.now tokens.now result (places.place_from source.now.end (expressions.expr source.now.dialect source.now.end depth) (seen source.now.bytes.now from.now) name) }
 {
     let (selectors, rest) = selectors(source, tokens, depth, Items::new(source.alloc))?;
     let span = span_between(source, from, rest);
@@ -204,7 +200,7 @@ pub fn place<'t>(
     tokens: &'t [Token],
     depth: u32,
 ) -> Result<(Place, &'t [Token]), ParseError>
-    ensures { Gives (λ x. (x.0, seen source.now.bytes.now x.1.now)) result (places.place source.now.end (expressions.expr source.now.dialect source.now.end depth) (seen source.now.bytes.now tokens.now)) }
+    ensures { Parses source.now tokens.now result (places.place source.now.end (expressions.expr source.now.dialect source.now.end depth)) }
 {
     let (name, rest) = identifier(source, tokens)?;
     place_from(source, rest, depth, tokens, name)
@@ -218,7 +214,7 @@ fn value_arg<'t>(
     tokens: &'t [Token],
     depth: u32,
 ) -> Result<(Arg, &'t [Token]), ParseError>
-    ensures { Gives (λ x. (x.0, seen source.now.bytes.now x.1.now)) result (places.value_arg source.now.end (expressions.expr source.now.dialect source.now.end depth) (seen source.now.bytes.now tokens.now)) }
+    ensures { Parses source.now tokens.now result (places.value_arg source.now.end (expressions.expr source.now.dialect source.now.end depth)) }
 {
     let (value, rest) = expr(source, tokens, depth)?;
     let (width, rest) = optional_after(source, rest, depth, Symbol::Colon)?;
@@ -242,7 +238,7 @@ fn one_arg<'t>(
     tokens: &'t [Token],
     depth: u32,
 ) -> Result<(Arg, &'t [Token]), ParseError>
-    ensures { Gives (λ x. (x.0, seen source.now.bytes.now x.1.now)) result (places.one_arg source.now.dialect source.now.end (expressions.expr source.now.dialect source.now.end depth) (seen source.now.bytes.now tokens.now)) }
+    ensures { Parses source.now tokens.now result (places.one_arg source.now.dialect source.now.end (expressions.expr source.now.dialect source.now.end depth)) }
 {
     if is_program(source, tokens) {
         return program_arg(source, tokens);
@@ -259,13 +255,11 @@ fn next_arg<'t>(
     depth: u32,
     all: Items<Arg>,
 ) -> Result<(Items<Arg>, &'t [Token]), ParseError>
-    ensures { Gives (λ x. (x.0, seen source.now.bytes.now x.1.now)) result (places.next_arg source.now.dialect source.now.end (expressions.expr source.now.dialect source.now.end depth) all (seen source.now.bytes.now tokens.now)) }
+    ensures { Parses source.now tokens.now result (places.next_arg source.now.dialect source.now.end (expressions.expr source.now.dialect source.now.end depth) all) }
 {
-    let mut all = all;
     let rest = expect(source, tokens, Symbol::Comma)?;
     let (item, rest) = one_arg(source, rest, depth)?;
-    all.push(item)?;
-    Ok((all, rest))
+    Ok((with_item(all, item)?, rest))
 }
 
 /// The arguments after the first.
@@ -276,7 +270,7 @@ fn more_args<'t>(
     depth: u32,
     first: Items<Arg>,
 ) -> Result<(Items<Arg>, &'t [Token]), ParseError>
-    ensures { Gives (λ x. (x.0, seen source.now.bytes.now x.1.now)) result (places.more_args source.now.dialect source.now.end (expressions.expr source.now.dialect source.now.end depth) first (seen source.now.bytes.now tokens.now)) }
+    ensures { Parses source.now tokens.now result (places.more_args source.now.dialect source.now.end (expressions.expr source.now.dialect source.now.end depth) first) }
 {
     let mut all = first;
     let mut rest = tokens;
@@ -299,11 +293,10 @@ fn listed_args<'t>(
     tokens: &'t [Token],
     depth: u32,
 ) -> Result<(Items<Arg>, &'t [Token]), ParseError>
-    ensures { Gives (λ x. (x.0, seen source.now.bytes.now x.1.now)) result (places.listed_args source.now.dialect source.now.end (expressions.expr source.now.dialect source.now.end depth) (seen source.now.bytes.now tokens.now)) }
+    ensures { Parses source.now tokens.now result (places.listed_args source.now.dialect source.now.end (expressions.expr source.now.dialect source.now.end depth)) }
 {
     let (item, rest) = one_arg(source, tokens, depth)?;
-    let mut first = Items::new(source.alloc);
-    first.push(item)?;
+    let first = row_of(source.alloc, item)?;
     more_args(source, rest, depth, first)
 }
 
@@ -315,7 +308,7 @@ pub fn args<'t>(
     tokens: &'t [Token],
     depth: u32,
 ) -> Result<(Args, &'t [Token]), ParseError>
-    ensures { Gives (λ x. (x.0, seen source.now.bytes.now x.1.now)) result (places.args source.now.dialect source.now.end (expressions.expr source.now.dialect source.now.end depth) (seen source.now.bytes.now tokens.now)) }
+    ensures { Parses source.now tokens.now result (places.args source.now.dialect source.now.end (expressions.expr source.now.dialect source.now.end depth)) }
 {
     let rest = expect(source, tokens, Symbol::Open)?;
     let (list, rest) = listed_args(source, rest, depth)?;
@@ -334,7 +327,7 @@ fn call<'t>(
     from: &[Token],
     name: Identifier,
 ) -> Result<(Factor, &'t [Token]), ParseError>
-    ensures { Gives (λ x. (x.0, seen source.now.bytes.now x.1.now)) result (factors.call source.now.dialect source.now.end (expressions.expr source.now.dialect source.now.end depth) (seen source.now.bytes.now from.now) name (seen source.now.bytes.now tokens.now)) }
+    ensures { Parses source.now tokens.now result (factors.call source.now.dialect source.now.end (expressions.expr source.now.dialect source.now.end depth) (seen source.now.bytes.now from.now) name) }
 {
     let (args, rest) = args(source, tokens, depth)?;
     let span = span_between(source, from, rest);
@@ -350,7 +343,7 @@ fn read_place<'t>(
     from: &[Token],
     name: Identifier,
 ) -> Result<(Factor, &'t [Token]), ParseError>
-    ensures { Gives (λ x. (x.0, seen source.now.bytes.now x.1.now)) result (factors.read_place source.now.end (expressions.expr source.now.dialect source.now.end depth) (seen source.now.bytes.now from.now) name (seen source.now.bytes.now tokens.now)) }
+    ensures { Parses source.now tokens.now result (factors.read_place source.now.end (expressions.expr source.now.dialect source.now.end depth) (seen source.now.bytes.now from.now) name) }
 {
     let (place, rest) = place_from(source, tokens, depth, from, name)?;
     Ok((Factor::Place(place), rest))
@@ -364,7 +357,7 @@ fn named<'t>(
     tokens: &'t [Token],
     depth: u32,
 ) -> Result<(Factor, &'t [Token]), ParseError>
-    ensures { Gives (λ x. (x.0, seen source.now.bytes.now x.1.now)) result (factors.named source.now.dialect source.now.end (expressions.expr source.now.dialect source.now.end depth) (seen source.now.bytes.now tokens.now)) }
+    ensures { Parses source.now tokens.now result (factors.named source.now.dialect source.now.end (expressions.expr source.now.dialect source.now.end depth)) }
 {
     let (name, rest) = identifier(source, tokens)?;
     if is(source, rest, Symbol::Open) {
@@ -381,12 +374,12 @@ fn group<'t>(
     tokens: &'t [Token],
     depth: u32,
 ) -> Result<(Factor, &'t [Token]), ParseError>
-    ensures { Gives (λ x. (x.0, seen source.now.bytes.now x.1.now)) result (factors.group source.now.end (expressions.expr source.now.dialect source.now.end depth) (seen source.now.bytes.now tokens.now)) }
+    ensures { Parses source.now tokens.now result (factors.group source.now.end (expressions.expr source.now.dialect source.now.end depth)) }
 {
     let rest = expect(source, tokens, Symbol::Open)?;
     let (inner, rest) = expr(source, rest, depth)?;
-    let rest = expect(source, rest, Symbol::Close)?;
     let inner = Boxed::new(source.alloc, inner)?;
+    let rest = expect(source, rest, Symbol::Close)?;
     let span = span_between(source, tokens, rest);
     Ok((Factor::Group { inner, span }, rest))
 }
@@ -399,7 +392,7 @@ fn negation<'t>(
     tokens: &'t [Token],
     depth: u32,
 ) -> Result<(Factor, &'t [Token]), ParseError>
-    ensures { Gives (λ x. (x.0, seen source.now.bytes.now x.1.now)) result (factors.negation source.now.end (expressions.factor source.now.dialect source.now.end depth) (seen source.now.bytes.now tokens.now)) }
+    ensures { Parses source.now tokens.now result (factors.negation source.now.end (expressions.factor source.now.dialect source.now.end depth)) }
 {
     let rest = expect_word(source, tokens, Word::KwNot)?;
     let (operand, rest) = factor(source, rest, depth)?;
@@ -415,7 +408,7 @@ fn elem<'t>(
     tokens: &'t [Token],
     depth: u32,
 ) -> Result<(Elem, &'t [Token]), ParseError>
-    ensures { Gives (λ x. (x.0, seen source.now.bytes.now x.1.now)) result (factors.elem source.now.end (expressions.expr source.now.dialect source.now.end depth) (seen source.now.bytes.now tokens.now)) }
+    ensures { Parses source.now tokens.now result (factors.elem source.now.end (expressions.expr source.now.dialect source.now.end depth)) }
 {
     let (first, rest) = expr(source, tokens, depth)?;
     let (last, rest) = optional_after(source, rest, depth, Symbol::DotDot)?;
@@ -432,13 +425,11 @@ fn next_elem<'t>(
     depth: u32,
     all: Items<Elem>,
 ) -> Result<(Items<Elem>, &'t [Token]), ParseError>
-    ensures { Gives (λ x. (x.0, seen source.now.bytes.now x.1.now)) result (factors.next_elem source.now.end (expressions.expr source.now.dialect source.now.end depth) all (seen source.now.bytes.now tokens.now)) }
+    ensures { Parses source.now tokens.now result (factors.next_elem source.now.end (expressions.expr source.now.dialect source.now.end depth) all) }
 {
-    let mut all = all;
     let rest = expect(source, tokens, Symbol::Comma)?;
     let (item, rest) = elem(source, rest, depth)?;
-    all.push(item)?;
-    Ok((all, rest))
+    Ok((with_item(all, item)?, rest))
 }
 
 /// The elements after the first.
@@ -449,7 +440,7 @@ fn more_elems<'t>(
     depth: u32,
     first: Items<Elem>,
 ) -> Result<(Items<Elem>, &'t [Token]), ParseError>
-    ensures { Gives (λ x. (x.0, seen source.now.bytes.now x.1.now)) result (factors.more_elems source.now.end (expressions.expr source.now.dialect source.now.end depth) first (seen source.now.bytes.now tokens.now)) }
+    ensures { Parses source.now tokens.now result (factors.more_elems source.now.end (expressions.expr source.now.dialect source.now.end depth) first) }
 {
     let mut all = first;
     let mut rest = tokens;
@@ -472,11 +463,10 @@ fn some_elems<'t>(
     tokens: &'t [Token],
     depth: u32,
 ) -> Result<(Items<Elem>, &'t [Token]), ParseError>
-    ensures { Gives (λ x. (x.0, seen source.now.bytes.now x.1.now)) result (factors.some_elems source.now.end (expressions.expr source.now.dialect source.now.end depth) (seen source.now.bytes.now tokens.now)) }
+    ensures { Parses source.now tokens.now result (factors.some_elems source.now.end (expressions.expr source.now.dialect source.now.end depth)) }
 {
     let (item, rest) = elem(source, tokens, depth)?;
-    let mut first = Items::new(source.alloc);
-    first.push(item)?;
+    let first = row_of(source.alloc, item)?;
     more_elems(source, rest, depth, first)
 }
 
@@ -487,7 +477,7 @@ fn elems<'t>(
     tokens: &'t [Token],
     depth: u32,
 ) -> Result<(Items<Elem>, &'t [Token]), ParseError>
-    ensures { Gives (λ x. (x.0, seen source.now.bytes.now x.1.now)) result (factors.elems source.now.end (expressions.expr source.now.dialect source.now.end depth) (seen source.now.bytes.now tokens.now)) }
+    ensures { Parses source.now tokens.now result (factors.elems source.now.end (expressions.expr source.now.dialect source.now.end depth)) }
 {
     if is(source, tokens, Symbol::CloseBracket) {
         return Ok((Items::new(source.alloc), tokens));
@@ -503,7 +493,7 @@ fn set<'t>(
     tokens: &'t [Token],
     depth: u32,
 ) -> Result<(Factor, &'t [Token]), ParseError>
-    ensures { Gives (λ x. (x.0, seen source.now.bytes.now x.1.now)) result (factors.set source.now.end (expressions.expr source.now.dialect source.now.end depth) (seen source.now.bytes.now tokens.now)) }
+    ensures { Parses source.now tokens.now result (factors.set source.now.end (expressions.expr source.now.dialect source.now.end depth)) }
 {
     let rest = expect(source, tokens, Symbol::OpenBracket)?;
     let (elements, rest) = elems(source, rest, depth)?;
@@ -520,7 +510,7 @@ fn factor_by<'t>(
     tokens: &'t [Token],
     depth: u32,
 ) -> Result<(Factor, &'t [Token]), ParseError>
-    ensures { Gives (λ x. (x.0, seen source.now.bytes.now x.1.now)) result (factors.factor_by source.now.dialect source.now.end (expressions.expr source.now.dialect source.now.end depth) (expressions.factor source.now.dialect source.now.end depth) (seen source.now.bytes.now tokens.now)) }
+    ensures { Parses source.now tokens.now result (factors.factor_by source.now.dialect source.now.end (expressions.expr source.now.dialect source.now.end depth) (expressions.factor source.now.dialect source.now.end depth)) }
 {
     if is_identifier(source, tokens) {
         return named(source, tokens, depth);
@@ -549,7 +539,7 @@ fn factor<'t>(
     tokens: &'t [Token],
     depth: u32,
 ) -> Result<(Factor, &'t [Token]), ParseError>
-    ensures { Gives (λ x. (x.0, seen source.now.bytes.now x.1.now)) result (expressions.factor source.now.dialect source.now.end depth (seen source.now.bytes.now tokens.now)) }
+    ensures { Parses source.now tokens.now result (expressions.factor source.now.dialect source.now.end depth) }
 {
     if depth == 0 {
         return Err(too_deep(tokens));
@@ -566,16 +556,15 @@ fn next_factor<'t>(
     depth: u32,
     all: Items<MultipliedFactor>,
 ) -> Result<(Items<MultipliedFactor>, &'t [Token]), ParseError>
-    ensures { Gives (λ x. (x.0, seen source.now.bytes.now x.1.now)) result (expressions.next_factor (expressions.factor source.now.dialect source.now.end depth) all (seen source.now.bytes.now tokens.now)) }
+    ensures { Parses source.now tokens.now result (expressions.next_factor (expressions.factor source.now.dialect source.now.end depth) all) }
 {
-    let mut all = all;
     let (operator, rest) = multiplying(source, tokens)?;
     let (item, rest) = factor(source, rest, depth)?;
-    all.push(MultipliedFactor {
+    let item = MultipliedFactor {
         operator,
         factor: item,
-    })?;
-    Ok((all, rest))
+    };
+    Ok((with_item(all, item)?, rest))
 }
 
 /// The factors after the first.
@@ -586,7 +575,7 @@ fn more_factors<'t>(
     depth: u32,
     first: Items<MultipliedFactor>,
 ) -> Result<(Items<MultipliedFactor>, &'t [Token]), ParseError>
-    ensures { Gives (λ x. (x.0, seen source.now.bytes.now x.1.now)) result (expressions.more_factors (expressions.factor source.now.dialect source.now.end depth) first (seen source.now.bytes.now tokens.now)) }
+    ensures { Parses source.now tokens.now result (expressions.more_factors (expressions.factor source.now.dialect source.now.end depth) first) }
 {
     let mut all = first;
     let mut rest = tokens;
@@ -608,7 +597,7 @@ fn term<'t>(
     tokens: &'t [Token],
     depth: u32,
 ) -> Result<(Term, &'t [Token]), ParseError>
-    ensures { Gives (λ x. (x.0, seen source.now.bytes.now x.1.now)) result (expressions.term source.now.end (expressions.factor source.now.dialect source.now.end depth) (seen source.now.bytes.now tokens.now)) }
+    ensures { Parses source.now tokens.now result (expressions.term source.now.end (expressions.factor source.now.dialect source.now.end depth)) }
 {
     let (first, rest) = factor(source, tokens, depth)?;
     let (others, rest) = more_factors(source, rest, depth, Items::new(source.alloc))?;
@@ -632,16 +621,15 @@ fn next_term<'t>(
     depth: u32,
     all: Items<AddedTerm>,
 ) -> Result<(Items<AddedTerm>, &'t [Token]), ParseError>
-    ensures { Gives (λ x. (x.0, seen source.now.bytes.now x.1.now)) result (expressions.next_term source.now.end (expressions.factor source.now.dialect source.now.end depth) all (seen source.now.bytes.now tokens.now)) }
+    ensures { Parses source.now tokens.now result (expressions.next_term source.now.end (expressions.factor source.now.dialect source.now.end depth) all) }
 {
-    let mut all = all;
     let (operator, rest) = adding(source, tokens)?;
     let (item, rest) = term(source, rest, depth)?;
-    all.push(AddedTerm {
+    let item = AddedTerm {
         operator,
         term: item,
-    })?;
-    Ok((all, rest))
+    };
+    Ok((with_item(all, item)?, rest))
 }
 
 /// The terms after the first.
@@ -652,7 +640,7 @@ fn more_terms<'t>(
     depth: u32,
     first: Items<AddedTerm>,
 ) -> Result<(Items<AddedTerm>, &'t [Token]), ParseError>
-    ensures { Gives (λ x. (x.0, seen source.now.bytes.now x.1.now)) result (expressions.more_terms source.now.end (expressions.factor source.now.dialect source.now.end depth) first (seen source.now.bytes.now tokens.now)) }
+    ensures { Parses source.now tokens.now result (expressions.more_terms source.now.end (expressions.factor source.now.dialect source.now.end depth) first) }
 {
     let mut all = first;
     let mut rest = tokens;
@@ -675,7 +663,7 @@ fn simple<'t>(
     tokens: &'t [Token],
     depth: u32,
 ) -> Result<(Simple, &'t [Token]), ParseError>
-    ensures { Gives (λ x. (x.0, seen source.now.bytes.now x.1.now)) result (expressions.simple source.now.end (expressions.factor source.now.dialect source.now.end depth) (seen source.now.bytes.now tokens.now)) }
+    ensures { Parses source.now tokens.now result (expressions.simple source.now.end (expressions.factor source.now.dialect source.now.end depth)) }
 {
     let (sign, rest) = optional_sign(source, tokens)?;
     let (first, rest) = term(source, rest, depth)?;
@@ -700,7 +688,7 @@ fn compared<'t>(
     tokens: &'t [Token],
     depth: u32,
 ) -> Result<(Option<Boxed<(Relation, Simple)>>, &'t [Token]), ParseError>
-    ensures { Gives (λ x. (x.0, seen source.now.bytes.now x.1.now)) result (expressions.compared source.now.end (expressions.factor source.now.dialect source.now.end depth) (seen source.now.bytes.now tokens.now)) }
+    ensures { Parses source.now tokens.now result (expressions.compared source.now.end (expressions.factor source.now.dialect source.now.end depth)) }
 {
     if is_relation(source, tokens) {
         let (relation, rest) = relation(source, tokens)?;
@@ -718,7 +706,7 @@ fn expr_by<'t>(
     tokens: &'t [Token],
     depth: u32,
 ) -> Result<(Expr, &'t [Token]), ParseError>
-    ensures { Gives (λ x. (x.0, seen source.now.bytes.now x.1.now)) result (expressions.expr_by source.now.end (expressions.factor source.now.dialect source.now.end depth) (seen source.now.bytes.now tokens.now)) }
+    ensures { Parses source.now tokens.now result (expressions.expr_by source.now.end (expressions.factor source.now.dialect source.now.end depth)) }
 {
     let (left, rest) = simple(source, tokens, depth)?;
     let (right, rest) = compared(source, rest, depth)?;
@@ -732,7 +720,7 @@ pub fn expr<'t>(
     tokens: &'t [Token],
     depth: u32,
 ) -> Result<(Expr, &'t [Token]), ParseError>
-    ensures { Gives (λ x. (x.0, seen source.now.bytes.now x.1.now)) result (expressions.expr source.now.dialect source.now.end depth (seen source.now.bytes.now tokens.now)) }
+    ensures { Parses source.now tokens.now result (expressions.expr source.now.dialect source.now.end depth) }
 {
     if depth == 0 {
         return Err(too_deep(tokens));

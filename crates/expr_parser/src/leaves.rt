@@ -1,6 +1,7 @@
 //! Parts without expressions in them.
 ghost use Rattle.std.specs.Prelude.{◌≡◌};
-ghost use Rattle.token_parsing.specs.Parser.{Gives, one_of};
+ghost use Rattle.token_parsing.specs.Parser.{one_of};
+ghost use Rattle.expr_parser.specs.Parsing.{Parses};
 ghost use Rattle.expr_parser.specs.Tokens.{seen};
 ghost use Rattle.expr_parser.specs.Classes as classes;
 ghost use Rattle.expr_parser.specs.Places as places;
@@ -19,7 +20,7 @@ use token_parsing::refusal::{ParseError, unexpected};
 /// The value of a number, and the tokens after it.
 #[tactic(auto, unfolding(token_parsing::specs::Parser::one_of))]
 pub fn value<'t>(source: &Source<'_>, tokens: &'t [Token]) -> Result<(i64, &'t [Token]), ParseError>
-    ensures { Gives (λ x. (x.0, seen source.now.bytes.now x.1.now)) result (one_of classes.numbers (seen source.now.bytes.now tokens.now)) }
+    ensures { Parses source.now tokens.now result (one_of classes.numbers) }
 {
     match tokens {
         [
@@ -39,7 +40,7 @@ pub fn bytes<'t>(
     source: &Source<'_>,
     tokens: &'t [Token],
 ) -> Result<(TextBytes, &'t [Token]), ParseError>
-    ensures { Gives (λ x. (x.0, seen source.now.bytes.now x.1.now)) result (one_of classes.texts (seen source.now.bytes.now tokens.now)) }
+    ensures { Parses source.now tokens.now result (one_of classes.texts) }
 {
     match tokens {
         [
@@ -61,7 +62,7 @@ pub fn number<'t>(
     source: &Source<'_>,
     tokens: &'t [Token],
 ) -> Result<(Factor, &'t [Token]), ParseError>
-    ensures { Gives (λ x. (x.0, seen source.now.bytes.now x.1.now)) result (factors.number source.now.end (seen source.now.bytes.now tokens.now)) }
+    ensures { Parses source.now tokens.now result (factors.number source.now.end) }
 {
     let (value, rest) = value(source, tokens)?;
     let span = span_between(source, tokens, rest);
@@ -73,7 +74,7 @@ pub fn text<'t>(
     source: &Source<'_>,
     tokens: &'t [Token],
 ) -> Result<(Factor, &'t [Token]), ParseError>
-    ensures { Gives (λ x. (x.0, seen source.now.bytes.now x.1.now)) result (factors.text source.now.end (seen source.now.bytes.now tokens.now)) }
+    ensures { Parses source.now tokens.now result (factors.text source.now.end) }
 {
     let (bytes, rest) = bytes(source, tokens)?;
     let span = span_between(source, tokens, rest);
@@ -85,7 +86,7 @@ pub fn nil<'t>(
     source: &Source<'_>,
     tokens: &'t [Token],
 ) -> Result<(Factor, &'t [Token]), ParseError>
-    ensures { Gives (λ x. (x.0, seen source.now.bytes.now x.1.now)) result (factors.nil source.now.end (seen source.now.bytes.now tokens.now)) }
+    ensures { Parses source.now tokens.now result (factors.nil source.now.end) }
 {
     let rest = expect_word(source, tokens, Word::KwNil)?;
     let span = span_between(source, tokens, rest);
@@ -98,7 +99,7 @@ pub fn field<'t>(
     source: &Source<'_>,
     tokens: &'t [Token],
 ) -> Result<(Selector, &'t [Token]), ParseError>
-    ensures { Gives (λ x. (x.0, seen source.now.bytes.now x.1.now)) result (places.field source.now.end (seen source.now.bytes.now tokens.now)) }
+    ensures { Parses source.now tokens.now result (places.field source.now.end) }
 {
     let rest = expect(source, tokens, Symbol::Dot)?;
     let (name, rest) = identifier(source, rest)?;
@@ -112,7 +113,7 @@ pub fn follow<'t>(
     source: &Source<'_>,
     tokens: &'t [Token],
 ) -> Result<(Selector, &'t [Token]), ParseError>
-    ensures { Gives (λ x. (x.0, seen source.now.bytes.now x.1.now)) result (places.follow source.now.end (seen source.now.bytes.now tokens.now)) }
+    ensures { Parses source.now tokens.now result (places.follow source.now.end) }
 {
     let rest = expect(source, tokens, Symbol::Caret)?;
     let span = span_between(source, tokens, rest);
@@ -144,7 +145,7 @@ pub fn program_arg<'t>(
     source: &Source<'_>,
     tokens: &'t [Token],
 ) -> Result<(Arg, &'t [Token]), ParseError>
-    ensures { Gives (λ x. (x.0, seen source.now.bytes.now x.1.now)) result (places.program_arg source.now.end (seen source.now.bytes.now tokens.now)) }
+    ensures { Parses source.now tokens.now result (places.program_arg source.now.end) }
 {
     let rest = expect_word(source, tokens, Word::KwProgram)?;
     let span = span_between(source, tokens, rest);
@@ -157,7 +158,7 @@ pub fn optional_sign<'t>(
     source: &Source<'_>,
     tokens: &'t [Token],
 ) -> Result<(Option<Sign>, &'t [Token]), ParseError>
-    ensures { Gives (λ x. (x.0, seen source.now.bytes.now x.1.now)) result (expressions.optional_sign (seen source.now.bytes.now tokens.now)) }
+    ensures { Parses source.now tokens.now result expressions.optional_sign }
 {
     if is_sign(source, tokens) {
         let (sign, rest) = sign(source, tokens)?;

@@ -19,6 +19,7 @@ pub mod laws;
 pub mod leaves;
 pub mod operators;
 pub mod parsing;
+pub mod rows;
 pub mod source;
 pub mod step;
 mod texts;

@@ -1,6 +1,7 @@
 //! Operators.
 ghost use Rattle.std.specs.Prelude.{◌≡◌};
-ghost use Rattle.token_parsing.specs.Parser.{Gives, begins, next, one_of, rest};
+ghost use Rattle.token_parsing.specs.Parser.{begins, next, one_of, rest};
+ghost use Rattle.expr_parser.specs.Parsing.{Parses};
 ghost use Rattle.expr_parser.specs.Tokens.{seen};
 ghost use Rattle.expr_parser.specs.Classes as spec;
 
@@ -124,7 +125,7 @@ pub fn is_sign(source: &Source<'_>, tokens: &[Token]) -> bool
 /// A sign, and the tokens after it.
 #[tactic(auto, unfolding(token_parsing::specs::Parser::one_of))]
 pub fn sign<'t>(source: &Source<'_>, tokens: &'t [Token]) -> Result<(Sign, &'t [Token]), ParseError>
-    ensures { Gives (λ x. (x.0, seen source.now.bytes.now x.1.now)) result (one_of spec.signs (seen source.now.bytes.now tokens.now)) }
+    ensures { Parses source.now tokens.now result (one_of spec.signs) }
 {
     match next_sign(source, tokens) {
         Some(operator) => Ok((operator, after(source, tokens))),
@@ -171,7 +172,7 @@ pub fn relation<'t>(
     source: &Source<'_>,
     tokens: &'t [Token],
 ) -> Result<(Relation, &'t [Token]), ParseError>
-    ensures { Gives (λ x. (x.0, seen source.now.bytes.now x.1.now)) result (one_of spec.relations (seen source.now.bytes.now tokens.now)) }
+    ensures { Parses source.now tokens.now result (one_of spec.relations) }
 {
     match next_relation(source, tokens) {
         Some(operator) => Ok((operator, after(source, tokens))),
@@ -218,7 +219,7 @@ pub fn adding<'t>(
     source: &Source<'_>,
     tokens: &'t [Token],
 ) -> Result<(Adding, &'t [Token]), ParseError>
-    ensures { Gives (λ x. (x.0, seen source.now.bytes.now x.1.now)) result (one_of spec.addings (seen source.now.bytes.now tokens.now)) }
+    ensures { Parses source.now tokens.now result (one_of spec.addings) }
 {
     match next_adding(source, tokens) {
         Some(operator) => Ok((operator, after(source, tokens))),
@@ -265,7 +266,7 @@ pub fn multiplying<'t>(
     source: &Source<'_>,
     tokens: &'t [Token],
 ) -> Result<(Multiplying, &'t [Token]), ParseError>
-    ensures { Gives (λ x. (x.0, seen source.now.bytes.now x.1.now)) result (one_of spec.multiplyings (seen source.now.bytes.now tokens.now)) }
+    ensures { Parses source.now tokens.now result (one_of spec.multiplyings) }
 {
     match next_multiplying(source, tokens) {
         Some(operator) => Ok((operator, after(source, tokens))),

@@ -1,6 +1,7 @@
 //! The next token.
 ghost use Rattle.std.specs.Prelude.{◌≡◌};
 ghost use Rattle.token_parsing.specs.Parser.{Gives, begins, one_of};
+ghost use Rattle.expr_parser.specs.Parsing.{Parses};
 ghost use Rattle.expr_parser.specs.Tokens.{seen};
 ghost use Rattle.expr_parser.specs.Classes.{same_word, same_symbol};
 ghost use Rattle.expr_parser.specs.Classes as spec;
@@ -170,7 +171,7 @@ pub fn identifier<'t>(
     source: &Source<'_>,
     tokens: &'t [Token],
 ) -> Result<(Identifier, &'t [Token]), ParseError>
-    ensures { Gives (λ x. (x.0, seen source.now.bytes.now x.1.now)) result (one_of spec.identifiers (seen source.now.bytes.now tokens.now)) }
+    ensures { Parses source.now tokens.now result (one_of spec.identifiers) }
 {
     match tokens {
         [

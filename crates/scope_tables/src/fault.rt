@@ -3,7 +3,7 @@
 use p2c_text::Name;
 
 /// Why a name could not be declared. It comes back.
-#[derive(Debug, Drop)]
+#[derive(Drop)]
 pub enum DeclareFault {
     /// The innermost scope has the name.
     Double(Name),

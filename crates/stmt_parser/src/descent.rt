@@ -1,7 +1,6 @@
 //! Statements, by recursive descent. `depth` is how many levels may still nest; a statement is one.
 ghost use Rattle.std.specs.Prelude.{◌≡◌};
-ghost use Rattle.token_parsing.specs.Parser.{Gives};
-ghost use Rattle.expr_parser.specs.Tokens.{seen};
+ghost use Rattle.expr_parser.specs.Parsing.{Parses};
 ghost use Rattle.expr_parser.specs.Expressions as expressions;
 ghost use Rattle.stmt_parser.specs.Statements as statements;
 ghost use Rattle.stmt_parser.specs.Cases as cases;
@@ -27,7 +26,7 @@ fn next_stmt<'t>(
     depth: u32,
     all: Stmts,
 ) -> Result<(Stmts, &'t [Token]), ParseError>
-    ensures { Gives (λ x. (x.0, seen source.now.bytes.now x.1.now)) result (statements.next_stmt (levels.stmt source.now.dialect source.now.end depth) all (seen source.now.bytes.now tokens.now)) }
+    ensures { Parses source.now tokens.now result (statements.next_stmt (levels.stmt source.now.dialect source.now.end depth) all) }
 {
     let mut all = all;
     let rest = expect(source, tokens, Symbol::Semicolon)?;
@@ -44,7 +43,7 @@ fn more_stmts<'t>(
     depth: u32,
     first: Stmts,
 ) -> Result<(Stmts, &'t [Token]), ParseError>
-    ensures { Gives (λ x. (x.0, seen source.now.bytes.now x.1.now)) result (statements.more_stmts (levels.stmt source.now.dialect source.now.end depth) first (seen source.now.bytes.now tokens.now)) }
+    ensures { Parses source.now tokens.now result (statements.more_stmts (levels.stmt source.now.dialect source.now.end depth) first) }
 {
     let mut all = first;
     let mut rest = tokens;
@@ -67,7 +66,7 @@ pub fn stmts<'t>(
     tokens: &'t [Token],
     depth: u32,
 ) -> Result<(Stmts, &'t [Token]), ParseError>
-    ensures { Gives (λ x. (x.0, seen source.now.bytes.now x.1.now)) result (statements.stmts (levels.stmt source.now.dialect source.now.end depth) (seen source.now.bytes.now tokens.now)) }
+    ensures { Parses source.now tokens.now result (statements.stmts (levels.stmt source.now.dialect source.now.end depth)) }
 {
     let (item, rest) = stmt(source, tokens, depth)?;
     let mut first = Items::new(source.alloc);
@@ -82,7 +81,7 @@ fn body<'t>(
     tokens: &'t [Token],
     depth: u32,
 ) -> Result<(Boxed<Stmt>, &'t [Token]), ParseError>
-    ensures { Gives (λ x. (x.0, seen source.now.bytes.now x.1.now)) result (levels.stmt source.now.dialect source.now.end depth (seen source.now.bytes.now tokens.now)) }
+    ensures { Parses source.now tokens.now result (levels.stmt source.now.dialect source.now.end depth) }
 {
     let (stmt, rest) = stmt(source, tokens, depth)?;
     let stmt = Boxed::new(source.alloc, stmt)?;
@@ -96,7 +95,7 @@ fn compound<'t>(
     tokens: &'t [Token],
     depth: u32,
 ) -> Result<(Plain, &'t [Token]), ParseError>
-    ensures { Gives (λ x. (x.0, seen source.now.bytes.now x.1.now)) result (statements.compound source.now.end (levels.stmt source.now.dialect source.now.end depth) (seen source.now.bytes.now tokens.now)) }
+    ensures { Parses source.now tokens.now result (statements.compound source.now.end (levels.stmt source.now.dialect source.now.end depth)) }
 {
     let rest = expect_word(source, tokens, Word::KwBegin)?;
     let (body, rest) = stmts(source, rest, depth)?;
@@ -113,7 +112,7 @@ fn optional_else<'t>(
     tokens: &'t [Token],
     depth: u32,
 ) -> Result<(Option<Boxed<Stmt>>, &'t [Token]), ParseError>
-    ensures { Gives (λ x. (x.0, seen source.now.bytes.now x.1.now)) result (statements.optional_else (levels.stmt source.now.dialect source.now.end depth) (seen source.now.bytes.now tokens.now)) }
+    ensures { Parses source.now tokens.now result (statements.optional_else (levels.stmt source.now.dialect source.now.end depth)) }
 {
     if is_word(source, tokens, Word::KwElse) {
         let rest = expect_word(source, tokens, Word::KwElse)?;
@@ -130,7 +129,7 @@ fn conditional<'t>(
     tokens: &'t [Token],
     depth: u32,
 ) -> Result<(Plain, &'t [Token]), ParseError>
-    ensures { Gives (λ x. (x.0, seen source.now.bytes.now x.1.now)) result (statements.conditional source.now.end (expressions.expr source.now.dialect source.now.end depth) (levels.stmt source.now.dialect source.now.end depth) (seen source.now.bytes.now tokens.now)) }
+    ensures { Parses source.now tokens.now result (statements.conditional source.now.end (expressions.expr source.now.dialect source.now.end depth) (levels.stmt source.now.dialect source.now.end depth)) }
 {
     let (condition, rest) = between(source, tokens, depth, Word::KwIf, Word::KwThen)?;
     let (yes, rest) = body(source, rest, depth)?;
@@ -154,7 +153,7 @@ fn while_loop<'t>(
     tokens: &'t [Token],
     depth: u32,
 ) -> Result<(Plain, &'t [Token]), ParseError>
-    ensures { Gives (λ x. (x.0, seen source.now.bytes.now x.1.now)) result (statements.while_loop source.now.end (expressions.expr source.now.dialect source.now.end depth) (levels.stmt source.now.dialect source.now.end depth) (seen source.now.bytes.now tokens.now)) }
+    ensures { Parses source.now tokens.now result (statements.while_loop source.now.end (expressions.expr source.now.dialect source.now.end depth) (levels.stmt source.now.dialect source.now.end depth)) }
 {
     let (condition, rest) = between(source, tokens, depth, Word::KwWhile, Word::KwDo)?;
     let (body, rest) = body(source, rest, depth)?;
@@ -176,7 +175,7 @@ fn repeat_loop<'t>(
     tokens: &'t [Token],
     depth: u32,
 ) -> Result<(Plain, &'t [Token]), ParseError>
-    ensures { Gives (λ x. (x.0, seen source.now.bytes.now x.1.now)) result (statements.repeat_loop source.now.end (expressions.expr source.now.dialect source.now.end depth) (levels.stmt source.now.dialect source.now.end depth) (seen source.now.bytes.now tokens.now)) }
+    ensures { Parses source.now tokens.now result (statements.repeat_loop source.now.end (expressions.expr source.now.dialect source.now.end depth) (levels.stmt source.now.dialect source.now.end depth)) }
 {
     let rest = expect_word(source, tokens, Word::KwRepeat)?;
     let (body, rest) = stmts(source, rest, depth)?;
@@ -193,7 +192,7 @@ fn for_loop<'t>(
     tokens: &'t [Token],
     depth: u32,
 ) -> Result<(Plain, &'t [Token]), ParseError>
-    ensures { Gives (λ x. (x.0, seen source.now.bytes.now x.1.now)) result (statements.for_loop source.now.end (expressions.expr source.now.dialect source.now.end depth) (levels.stmt source.now.dialect source.now.end depth) (seen source.now.bytes.now tokens.now)) }
+    ensures { Parses source.now tokens.now result (statements.for_loop source.now.end (expressions.expr source.now.dialect source.now.end depth) (levels.stmt source.now.dialect source.now.end depth)) }
 {
     let rest = expect_word(source, tokens, Word::KwFor)?;
     let (variable, rest) = identifier(source, rest)?;
@@ -210,7 +209,7 @@ fn with_places<'t>(
     tokens: &'t [Token],
     depth: u32,
 ) -> Result<(Plain, &'t [Token]), ParseError>
-    ensures { Gives (λ x. (x.0, seen source.now.bytes.now x.1.now)) result (statements.with_places source.now.end (expressions.expr source.now.dialect source.now.end depth) (levels.stmt source.now.dialect source.now.end depth) (seen source.now.bytes.now tokens.now)) }
+    ensures { Parses source.now tokens.now result (statements.with_places source.now.end (expressions.expr source.now.dialect source.now.end depth) (levels.stmt source.now.dialect source.now.end depth)) }
 {
     let rest = expect_word(source, tokens, Word::KwWith)?;
     let (places, rest) = places(source, rest, depth)?;
@@ -227,7 +226,7 @@ fn try_block<'t>(
     tokens: &'t [Token],
     depth: u32,
 ) -> Result<(Plain, &'t [Token]), ParseError>
-    ensures { Gives (λ x. (x.0, seen source.now.bytes.now x.1.now)) result (statements.try_block source.now.end (levels.stmt source.now.dialect source.now.end depth) (seen source.now.bytes.now tokens.now)) }
+    ensures { Parses source.now tokens.now result (statements.try_block source.now.end (levels.stmt source.now.dialect source.now.end depth)) }
 {
     let rest = expect_word(source, tokens, Word::KwTry)?;
     let (tried, rest) = stmts(source, rest, depth)?;
@@ -251,7 +250,7 @@ fn arm<'t>(
     tokens: &'t [Token],
     depth: u32,
 ) -> Result<(Arm, &'t [Token]), ParseError>
-    ensures { Gives (λ x. (x.0, seen source.now.bytes.now x.1.now)) result (cases.arm source.now.dialect source.now.end (levels.stmt source.now.dialect source.now.end depth) (seen source.now.bytes.now tokens.now)) }
+    ensures { Parses source.now tokens.now result (cases.arm source.now.dialect source.now.end (levels.stmt source.now.dialect source.now.end depth)) }
 {
     let (labels, rest) = case_labels(source, tokens)?;
     let rest = expect(source, rest, Symbol::Colon)?;
@@ -269,7 +268,7 @@ fn next_arm<'t>(
     depth: u32,
     all: Arms,
 ) -> Result<(Arms, &'t [Token]), ParseError>
-    ensures { Gives (λ x. (x.0, seen source.now.bytes.now x.1.now)) result (cases.next_arm source.now.dialect source.now.end (levels.stmt source.now.dialect source.now.end depth) all (seen source.now.bytes.now tokens.now)) }
+    ensures { Parses source.now tokens.now result (cases.next_arm source.now.dialect source.now.end (levels.stmt source.now.dialect source.now.end depth) all) }
 {
     let mut all = all;
     let rest = expect(source, tokens, Symbol::Semicolon)?;
@@ -286,7 +285,7 @@ fn more_arms<'t>(
     depth: u32,
     first: Arms,
 ) -> Result<(Arms, &'t [Token]), ParseError>
-    ensures { Gives (λ x. (x.0, seen source.now.bytes.now x.1.now)) result (cases.more_arms source.now.dialect source.now.end (levels.stmt source.now.dialect source.now.end depth) first (seen source.now.bytes.now tokens.now)) }
+    ensures { Parses source.now tokens.now result (cases.more_arms source.now.dialect source.now.end (levels.stmt source.now.dialect source.now.end depth) first) }
 {
     let mut all = first;
     let mut rest = tokens;
@@ -309,7 +308,7 @@ fn arms<'t>(
     tokens: &'t [Token],
     depth: u32,
 ) -> Result<(Arms, &'t [Token]), ParseError>
-    ensures { Gives (λ x. (x.0, seen source.now.bytes.now x.1.now)) result (cases.arms source.now.dialect source.now.end (levels.stmt source.now.dialect source.now.end depth) (seen source.now.bytes.now tokens.now)) }
+    ensures { Parses source.now tokens.now result (cases.arms source.now.dialect source.now.end (levels.stmt source.now.dialect source.now.end depth)) }
 {
     let (item, rest) = arm(source, tokens, depth)?;
     let mut first = Items::new(source.alloc);
@@ -325,7 +324,7 @@ fn rest_part<'t>(
     tokens: &'t [Token],
     depth: u32,
 ) -> Result<(Rest, &'t [Token]), ParseError>
-    ensures { Gives (λ x. (x.0, seen source.now.bytes.now x.1.now)) result (cases.rest_part source.now.dialect source.now.end (levels.stmt source.now.dialect source.now.end depth) (seen source.now.bytes.now tokens.now)) }
+    ensures { Parses source.now tokens.now result (cases.rest_part source.now.dialect source.now.end (levels.stmt source.now.dialect source.now.end depth)) }
 {
     let rest = expect_word(source, tokens, rest_word(source.dialect))?;
     let (body, rest) = stmts(source, rest, depth)?;
@@ -340,7 +339,7 @@ fn optional_rest<'t>(
     tokens: &'t [Token],
     depth: u32,
 ) -> Result<(Option<Rest>, &'t [Token]), ParseError>
-    ensures { Gives (λ x. (x.0, seen source.now.bytes.now x.1.now)) result (cases.optional_rest source.now.dialect source.now.end (levels.stmt source.now.dialect source.now.end depth) (seen source.now.bytes.now tokens.now)) }
+    ensures { Parses source.now tokens.now result (cases.optional_rest source.now.dialect source.now.end (levels.stmt source.now.dialect source.now.end depth)) }
 {
     if is_rest(source, tokens) {
         let (part, rest) = rest_part(source, tokens, depth)?;
@@ -356,7 +355,7 @@ fn case_of<'t>(
     tokens: &'t [Token],
     depth: u32,
 ) -> Result<(Plain, &'t [Token]), ParseError>
-    ensures { Gives (λ x. (x.0, seen source.now.bytes.now x.1.now)) result (cases.case_of source.now.dialect source.now.end (expressions.expr source.now.dialect source.now.end depth) (levels.stmt source.now.dialect source.now.end depth) (seen source.now.bytes.now tokens.now)) }
+    ensures { Parses source.now tokens.now result (cases.case_of source.now.dialect source.now.end (expressions.expr source.now.dialect source.now.end depth) (levels.stmt source.now.dialect source.now.end depth)) }
 {
     let (selector, rest) = between(source, tokens, depth, Word::KwCase, Word::KwOf)?;
     let (arms, rest) = arms(source, rest, depth)?;
@@ -384,7 +383,7 @@ fn structured<'t>(
     tokens: &'t [Token],
     depth: u32,
 ) -> Result<(Plain, &'t [Token]), ParseError>
-    ensures { Gives (λ x. (x.0, seen source.now.bytes.now x.1.now)) result (levels.structured source.now.dialect source.now.end (expressions.expr source.now.dialect source.now.end depth) (levels.stmt source.now.dialect source.now.end depth) (seen source.now.bytes.now tokens.now)) }
+    ensures { Parses source.now tokens.now result (levels.structured source.now.dialect source.now.end (expressions.expr source.now.dialect source.now.end depth) (levels.stmt source.now.dialect source.now.end depth)) }
 {
     if is_word(source, tokens, Word::KwBegin) {
         return compound(source, tokens, depth);
@@ -421,7 +420,7 @@ fn plain_by<'t>(
     tokens: &'t [Token],
     depth: u32,
 ) -> Result<(Plain, &'t [Token]), ParseError>
-    ensures { Gives (λ x. (x.0, seen source.now.bytes.now x.1.now)) result (levels.plain_by source.now.dialect source.now.end (expressions.expr source.now.dialect source.now.end depth) (levels.stmt source.now.dialect source.now.end depth) (seen source.now.bytes.now tokens.now)) }
+    ensures { Parses source.now tokens.now result (levels.plain_by source.now.dialect source.now.end (expressions.expr source.now.dialect source.now.end depth) (levels.stmt source.now.dialect source.now.end depth)) }
 {
     if is_identifier(source, tokens) {
         return named(source, tokens, depth);
@@ -440,7 +439,7 @@ fn stmt_by<'t>(
     tokens: &'t [Token],
     depth: u32,
 ) -> Result<(Stmt, &'t [Token]), ParseError>
-    ensures { Gives (λ x. (x.0, seen source.now.bytes.now x.1.now)) result (levels.stmt_by source.now.dialect source.now.end (expressions.expr source.now.dialect source.now.end depth) (levels.stmt source.now.dialect source.now.end depth) (seen source.now.bytes.now tokens.now)) }
+    ensures { Parses source.now tokens.now result (levels.stmt_by source.now.dialect source.now.end (expressions.expr source.now.dialect source.now.end depth) (levels.stmt source.now.dialect source.now.end depth)) }
 {
     let (label, rest) = optional_label(source, tokens)?;
     let (plain, rest) = plain_by(source, rest, depth)?;
@@ -454,7 +453,7 @@ pub fn stmt<'t>(
     tokens: &'t [Token],
     depth: u32,
 ) -> Result<(Stmt, &'t [Token]), ParseError>
-    ensures { Gives (λ x. (x.0, seen source.now.bytes.now x.1.now)) result (levels.stmt source.now.dialect source.now.end depth (seen source.now.bytes.now tokens.now)) }
+    ensures { Parses source.now tokens.now result (levels.stmt source.now.dialect source.now.end depth) }
 {
     if depth == 0 {
         return Err(too_deep(tokens));

@@ -1,7 +1,8 @@
 //! What stands before the parts of a statement.
 ghost use Rattle.std.specs.Prelude.{◌≡◌};
 ghost use Rattle.pascal_tree.specs.declared.statements.Plain.TheVariants as plain_;
-ghost use Rattle.token_parsing.specs.Parser.{Gives, next, one_of};
+ghost use Rattle.token_parsing.specs.Parser.{next, one_of};
+ghost use Rattle.expr_parser.specs.Parsing.{Parses};
 ghost use Rattle.expr_parser.specs.Tokens.{seen};
 ghost use Rattle.expr_parser.specs.Expressions.{expr as expr_of};
 ghost use Rattle.stmt_parser.specs.Classes as classes;
@@ -31,7 +32,7 @@ pub fn boxed<'t>(
     tokens: &'t [Token],
     depth: u32,
 ) -> Result<(Boxed<Expr>, &'t [Token]), ParseError>
-    ensures { Gives (λ x. (x.0, seen source.now.bytes.now x.1.now)) result (expr_of source.now.dialect source.now.end depth (seen source.now.bytes.now tokens.now)) }
+    ensures { Parses source.now tokens.now result (expr_of source.now.dialect source.now.end depth) }
 {
     let (expr, rest) = expr(source, tokens, depth)?;
     let expr = Boxed::new(source.alloc, expr)?;
@@ -47,7 +48,7 @@ pub fn between<'t>(
     opening: Word,
     closing: Word,
 ) -> Result<(Boxed<Expr>, &'t [Token]), ParseError>
-    ensures { Gives (λ x. (x.0, seen source.now.bytes.now x.1.now)) result (spec.between opening closing (expr_of source.now.dialect source.now.end depth) (seen source.now.bytes.now tokens.now)) }
+    ensures { Parses source.now tokens.now result (spec.between opening closing (expr_of source.now.dialect source.now.end depth)) }
 {
     let rest = expect_word(source, tokens, opening)?;
     let (expr, rest) = boxed(source, rest, depth)?;
@@ -86,7 +87,7 @@ fn direction<'t>(
     source: &Source<'_>,
     tokens: &'t [Token],
 ) -> Result<(Direction, &'t [Token]), ParseError>
-    ensures { Gives (λ x. (x.0, seen source.now.bytes.now x.1.now)) result (one_of classes.directions (seen source.now.bytes.now tokens.now)) }
+    ensures { Parses source.now tokens.now result (one_of classes.directions) }
 {
     match next_direction(source, tokens) {
         Some(direction) => Ok((direction, after(source, tokens))),
@@ -101,7 +102,7 @@ pub fn for_limits<'t>(
     tokens: &'t [Token],
     depth: u32,
 ) -> Result<(Limits, &'t [Token]), ParseError>
-    ensures { Gives (λ x. (x.0, seen source.now.bytes.now x.1.now)) result (spec.limits (expr_of source.now.dialect source.now.end depth) (seen source.now.bytes.now tokens.now)) }
+    ensures { Parses source.now tokens.now result (spec.limits (expr_of source.now.dialect source.now.end depth)) }
 {
     let rest = expect(source, tokens, Symbol::Assign)?;
     let (first, rest) = boxed(source, rest, depth)?;
@@ -145,7 +146,7 @@ fn next_place<'t>(
     depth: u32,
     all: Places,
 ) -> Result<(Places, &'t [Token]), ParseError>
-    ensures { Gives (λ x. (x.0, seen source.now.bytes.now x.1.now)) result (spec.next_place source.now.end (expr_of source.now.dialect source.now.end depth) all (seen source.now.bytes.now tokens.now)) }
+    ensures { Parses source.now tokens.now result (spec.next_place source.now.end (expr_of source.now.dialect source.now.end depth) all) }
 {
     let mut all = all;
     let rest = expect(source, tokens, Symbol::Comma)?;
@@ -161,7 +162,7 @@ fn more_places<'t>(
     depth: u32,
     first: Places,
 ) -> Result<(Places, &'t [Token]), ParseError>
-    ensures { Gives (λ x. (x.0, seen source.now.bytes.now x.1.now)) result (spec.more_places source.now.end (expr_of source.now.dialect source.now.end depth) first (seen source.now.bytes.now tokens.now)) }
+    ensures { Parses source.now tokens.now result (spec.more_places source.now.end (expr_of source.now.dialect source.now.end depth) first) }
 {
     let mut all = first;
     let mut rest = tokens;
@@ -183,7 +184,7 @@ pub fn places<'t>(
     tokens: &'t [Token],
     depth: u32,
 ) -> Result<(Places, &'t [Token]), ParseError>
-    ensures { Gives (λ x. (x.0, seen source.now.bytes.now x.1.now)) result (spec.places source.now.end (expr_of source.now.dialect source.now.end depth) (seen source.now.bytes.now tokens.now)) }
+    ensures { Parses source.now tokens.now result (spec.places source.now.end (expr_of source.now.dialect source.now.end depth)) }
 {
     let (item, rest) = place(source, tokens, depth)?;
     let mut first = Items::new(source.alloc);

@@ -1,6 +1,6 @@
 //! What may stand after the arms of a `case`.
 ghost use Rattle.std.specs.Prelude.{◌≡◌};
-ghost use Rattle.token_parsing.specs.Parser.{Gives};
+ghost use Rattle.expr_parser.specs.Parsing.{Parses};
 ghost use Rattle.expr_parser.specs.Tokens.{seen};
 ghost use Rattle.expr_parser.specs.Dialects as dialects;
 ghost use Rattle.stmt_parser.specs.Writing as writing;
@@ -53,7 +53,7 @@ pub fn optional_semicolon<'t>(
     source: &Source<'_>,
     tokens: &'t [Token],
 ) -> Result<(bool, &'t [Token]), ParseError>
-    ensures { Gives (λ x. (x.0, seen source.now.bytes.now x.1.now)) result (spec.optional_semicolon (seen source.now.bytes.now tokens.now)) }
+    ensures { Parses source.now tokens.now result spec.optional_semicolon }
 {
     if is(source, tokens, Symbol::Semicolon) {
         let rest = expect(source, tokens, Symbol::Semicolon)?;

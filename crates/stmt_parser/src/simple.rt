@@ -1,6 +1,6 @@
 //! Statements without statements in them.
 ghost use Rattle.std.specs.Prelude.{◌≡◌};
-ghost use Rattle.token_parsing.specs.Parser.{Gives};
+ghost use Rattle.expr_parser.specs.Parsing.{Parses};
 ghost use Rattle.expr_parser.specs.Tokens.{seen};
 ghost use Rattle.expr_parser.specs.Expressions.{expr as expr_of};
 ghost use Rattle.stmt_parser.specs.Statements as spec;
@@ -21,7 +21,7 @@ pub fn nothing<'t>(
     source: &Source<'_>,
     tokens: &'t [Token],
 ) -> Result<(Plain, &'t [Token]), ParseError>
-    ensures { Gives (λ x. (x.0, seen source.now.bytes.now x.1.now)) result (spec.nothing source.now.end (seen source.now.bytes.now tokens.now)) }
+    ensures { Parses source.now tokens.now result (spec.nothing source.now.end) }
 {
     Ok((Plain::Nothing(span_between(source, tokens, tokens)), tokens))
 }
@@ -31,7 +31,7 @@ pub fn goto_label<'t>(
     source: &Source<'_>,
     tokens: &'t [Token],
 ) -> Result<(Plain, &'t [Token]), ParseError>
-    ensures { Gives (λ x. (x.0, seen source.now.bytes.now x.1.now)) result (spec.goto source.now.dialect source.now.end (seen source.now.bytes.now tokens.now)) }
+    ensures { Parses source.now tokens.now result (spec.goto source.now.dialect source.now.end) }
 {
     let rest = expect_word(source, tokens, Word::KwGoto)?;
     let (label, rest) = label(source, rest)?;
@@ -48,7 +48,7 @@ fn assignment<'t>(
     from: &[Token],
     name: Identifier,
 ) -> Result<(Plain, &'t [Token]), ParseError>
-    ensures { Gives (λ x. (x.0, seen source.now.bytes.now x.1.now)) result (spec.assignment source.now.end (expr_of source.now.dialect source.now.end depth) (seen source.now.bytes.now from.now) name (seen source.now.bytes.now tokens.now)) }
+    ensures { Parses source.now tokens.now result (spec.assignment source.now.end (expr_of source.now.dialect source.now.end depth) (seen source.now.bytes.now from.now) name) }
 {
     let (target, rest) = place_from(source, tokens, depth, from, name)?;
     let rest = expect(source, rest, Symbol::Assign)?;
@@ -73,7 +73,7 @@ fn call_with<'t>(
     from: &[Token],
     name: Identifier,
 ) -> Result<(Plain, &'t [Token]), ParseError>
-    ensures { Gives (λ x. (x.0, seen source.now.bytes.now x.1.now)) result (spec.call_with source.now.dialect source.now.end (expr_of source.now.dialect source.now.end depth) (seen source.now.bytes.now from.now) name (seen source.now.bytes.now tokens.now)) }
+    ensures { Parses source.now tokens.now result (spec.call_with source.now.dialect source.now.end (expr_of source.now.dialect source.now.end depth) (seen source.now.bytes.now from.now) name) }
 {
     let (args, rest) = args(source, tokens, depth)?;
     let span = span_between(source, from, rest);
@@ -94,7 +94,7 @@ fn call_alone<'t>(
     from: &[Token],
     name: Identifier,
 ) -> Result<(Plain, &'t [Token]), ParseError>
-    ensures { Gives (λ x. (x.0, seen source.now.bytes.now x.1.now)) result (spec.call_alone source.now.end (seen source.now.bytes.now from.now) name (seen source.now.bytes.now tokens.now)) }
+    ensures { Parses source.now tokens.now result (spec.call_alone source.now.end (seen source.now.bytes.now from.now) name) }
 {
     let span = span_between(source, from, tokens);
     Ok((
@@ -123,7 +123,7 @@ fn after_name<'t>(
     from: &[Token],
     name: Identifier,
 ) -> Result<(Plain, &'t [Token]), ParseError>
-    ensures { Gives (λ x. (x.0, seen source.now.bytes.now x.1.now)) result (spec.after_name source.now.dialect source.now.end (expr_of source.now.dialect source.now.end depth) (seen source.now.bytes.now from.now) name (seen source.now.bytes.now tokens.now)) }
+    ensures { Parses source.now tokens.now result (spec.after_name source.now.dialect source.now.end (expr_of source.now.dialect source.now.end depth) (seen source.now.bytes.now from.now) name) }
 {
     if is(source, tokens, Symbol::Open) {
         return call_with(source, tokens, depth, from, name);
@@ -141,7 +141,7 @@ pub fn named<'t>(
     tokens: &'t [Token],
     depth: u32,
 ) -> Result<(Plain, &'t [Token]), ParseError>
-    ensures { Gives (λ x. (x.0, seen source.now.bytes.now x.1.now)) result (spec.named source.now.dialect source.now.end (expr_of source.now.dialect source.now.end depth) (seen source.now.bytes.now tokens.now)) }
+    ensures { Parses source.now tokens.now result (spec.named source.now.dialect source.now.end (expr_of source.now.dialect source.now.end depth)) }
 {
     let (name, rest) = identifier(source, tokens)?;
     after_name(source, rest, depth, tokens, name)

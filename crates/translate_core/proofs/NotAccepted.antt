@@ -1,5 +1,5 @@
 -- Texts that are refused are not accepted.
-use Rattle.std.proofs.Common.{◌≡◌, ◌⊎◌, inl, inr, ℕ, suc, ◌≤◌, ◌<◌, List, [], ◌∷◌, ◌++◌, map, length, refl, sym, subst, ap, ◌∙◌, arith}
+use Rattle.std.proofs.Common.{◌≡◌, inl, inr, ℕ, suc, List, [], ◌∷◌, ◌++◌, length, refl, sym, subst, ap, ◌∙◌, arith}
 use Rattle.std.proofs.lemmas.List.{append_assoc, append-nil, map-append}
 use Rattle.p2c_text.specs.declared.dialect.Dialect.{Dialect}
 use Rattle.p2c_text.specs.declared.place.Span.{Span}
@@ -13,20 +13,18 @@ use Rattle.pascal_tree.specs.declared.files.SourceFile.{SourceFile}
 use Rattle.expr_parser.specs.declared.fault.SyntaxFault.{SyntaxFault}
 use Rattle.expr_parser.specs.declared.fault.SyntaxFault.TheVariants as syntax
 use Rattle.expr_parser.specs.Parsed.{end_of}
-use Rattle.expr_parser.specs.Tokens.{Placed, Token, plain, seen}
+use Rattle.expr_parser.specs.Tokens.{Placed, plain, seen}
 use Rattle.expr_parser.specs.Layout.{tokens_of}
 use Rattle.expr_parser.proofs.Layouts.{written_taken}
 use Rattle.unit_parser.specs.Writing.{write_file}
 use Rattle.unit_parser.specs.Text.{Derives, Faults}
 use Rattle.unit_parser.proofs.ExactLaws.{derived_is_unique}
 use Rattle.agreement.specs.Writers.{Writing}
-use Rattle.writer_trees.specs.Files.{IsWriterFile}
 use Rattle.writer_trees.specs.Unbuilt.{FirstUnbuilt}
 use Rattle.writer_trees.proofs.Firsts.{unbuilt_is_no_writer}
-use Rattle.translate_core.specs.Accepted.{size, AllLex, AllDerive, DerivesText, HaveTrees, Accepts}
-use Rattle.translate_core.specs.Refused.{HasNoTokens, HasNoTree, FailsToLex, FailsToParse, FirstUnbuiltIn, Refuses}
-use Rattle.translate_core.specs.Laws.{IsOfTexts, RefusedAreNotAccepted}
-use Rattle.translate_core.specs.declared.refusal.Refusal.{Refusal}
+use Rattle.translate_core.specs.Accepted.{AllLex, AllDerive, DerivesText, HaveTrees, Accepts}
+use Rattle.translate_core.specs.Refused.{HasNoTokens, HasNoTree, FailsToLex, FailsToParse, FirstUnbuiltIn}
+use Rattle.translate_core.specs.Laws.{RefusedAreNotAccepted}
 use Rattle.translate_core.specs.declared.refusal.Refusal.TheVariants as refusal
 
 -- ---- tokens

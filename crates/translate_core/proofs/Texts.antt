@@ -1,10 +1,9 @@
 -- Lists of texts, with their tokens and trees.
 use Rattle.std.proofs.Common.{◌≡◌, ℕ, suc, ◌+◌, ◌≤◌, ◌<◌, List, [], ◌∷◌, ◌++◌, length, refl, sym, subst, ap, ◌∙◌, arith}
-use Rattle.std.proofs.lemmas.List.{append_assoc, append-nil, length_push}
+use Rattle.std.proofs.lemmas.List.{append_assoc, length_push}
 use Rattle.p2c_text.specs.declared.dialect.Dialect.{Dialect}
 use Rattle.p2c_text.specs.Text.{NamedBytes}
 use Rattle.dialect_lexer.specs.FileTokens.{FileTokens}
-use Rattle.dialect_lexer.specs.Tokens.{Lexes}
 use Rattle.pascal_tree.specs.declared.files.SourceFile.{SourceFile}
 use Rattle.translate_core.specs.Accepted.{size, AllLex, AllDerive, DerivesText}
 use Rattle.translate_core.specs.Reading.{IsLexed, LexedUpTo, ParsedUpTo}

@@ -5,7 +5,7 @@ use Rattle.p2c_text.specs.Text.{NamedBytes}
 use Rattle.dialect_lexer.specs.FileTokens.{FileTokens}
 use Rattle.dialect_lexer.specs.Tokens.{Lexes}
 use Rattle.pascal_tree.specs.declared.files.SourceFile.{SourceFile}
-use Rattle.translate_core.specs.Accepted.{AllLex, AllDerive, DerivesText}
+use Rattle.translate_core.specs.Accepted.{AllLex, AllDerive}
 use Rattle.translate_core.specs.Refused.{HasNoTokens, HasNoTree, FailsToLex, FailsToParse}
 use Rattle.translate_core.specs.declared.refusal.Refusal.{Refusal}
 use Rattle.translate_core.specs.declared.refusal.Refusal.TheVariants as refusal

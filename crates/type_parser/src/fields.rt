@@ -1,6 +1,6 @@
 //! Parts of lists of fields that have no types in them.
 ghost use Rattle.std.specs.Prelude.{◌≡◌};
-ghost use Rattle.token_parsing.specs.Parser.{Gives};
+ghost use Rattle.expr_parser.specs.Parsing.{Parses};
 ghost use Rattle.expr_parser.specs.Tokens.{seen};
 ghost use Rattle.type_parser.specs.Fields as spec;
 
@@ -46,7 +46,7 @@ fn optional_tag<'t>(
     source: &Source<'_>,
     tokens: &'t [Token],
 ) -> Result<(Option<Identifier>, &'t [Token]), ParseError>
-    ensures { Gives (λ x. (x.0, seen source.now.bytes.now x.1.now)) result (spec.optional_tag (seen source.now.bytes.now tokens.now)) }
+    ensures { Parses source.now tokens.now result spec.optional_tag }
 {
     if is_tag(source, tokens) {
         let (name, rest) = identifier(source, tokens)?;
@@ -62,7 +62,7 @@ pub fn selector<'t>(
     source: &Source<'_>,
     tokens: &'t [Token],
 ) -> Result<((Option<Identifier>, TypeName), &'t [Token]), ParseError>
-    ensures { Gives (λ x. (x.0, seen source.now.bytes.now x.1.now)) result (spec.selector source.now.end (seen source.now.bytes.now tokens.now)) }
+    ensures { Parses source.now tokens.now result (spec.selector source.now.end) }
 {
     let rest = expect_word(source, tokens, Word::KwCase)?;
     let (tag, rest) = optional_tag(source, rest)?;
@@ -77,7 +77,7 @@ pub fn optional_semicolon<'t>(
     source: &Source<'_>,
     tokens: &'t [Token],
 ) -> Result<(bool, &'t [Token]), ParseError>
-    ensures { Gives (λ x. (x.0, seen source.now.bytes.now x.1.now)) result (spec.optional_semicolon (seen source.now.bytes.now tokens.now)) }
+    ensures { Parses source.now tokens.now result spec.optional_semicolon }
 {
     if is(source, tokens, Symbol::Semicolon) {
         let rest = expect(source, tokens, Symbol::Semicolon)?;
@@ -92,7 +92,7 @@ pub fn no_fields<'t>(
     source: &Source<'_>,
     tokens: &'t [Token],
 ) -> Result<(Fields, &'t [Token]), ParseError>
-    ensures { Gives (λ x. (x.0, seen source.now.bytes.now x.1.now)) result (spec.no_fields source.now.end (seen source.now.bytes.now tokens.now)) }
+    ensures { Parses source.now tokens.now result (spec.no_fields source.now.end) }
 {
     let span = span_between(source, tokens, tokens);
     let fields = Fields {

@@ -1,7 +1,6 @@
 //! Formal parameters, by recursive descent. `depth` is how many levels of lists of them may still nest.
 ghost use Rattle.std.specs.Prelude.{◌≡◌};
-ghost use Rattle.token_parsing.specs.Parser.{Gives};
-ghost use Rattle.expr_parser.specs.Tokens.{seen};
+ghost use Rattle.expr_parser.specs.Parsing.{Parses};
 ghost use Rattle.type_parser.specs.Formals as spec;
 ghost use Rattle.type_parser.specs.Levels as levels;
 
@@ -19,7 +18,7 @@ fn optional_var<'t>(
     source: &Source<'_>,
     tokens: &'t [Token],
 ) -> Result<(bool, &'t [Token]), ParseError>
-    ensures { Gives (λ x. (x.0, seen source.now.bytes.now x.1.now)) result (spec.optional_var (seen source.now.bytes.now tokens.now)) }
+    ensures { Parses source.now tokens.now result spec.optional_var }
 {
     if is_word(source, tokens, Word::KwVar) {
         let rest = expect_word(source, tokens, Word::KwVar)?;
@@ -34,7 +33,7 @@ pub fn result_name<'t>(
     source: &Source<'_>,
     tokens: &'t [Token],
 ) -> Result<(TypeName, &'t [Token]), ParseError>
-    ensures { Gives (λ x. (x.0, seen source.now.bytes.now x.1.now)) result (spec.result source.now.end (seen source.now.bytes.now tokens.now)) }
+    ensures { Parses source.now tokens.now result (spec.result source.now.end) }
 {
     let rest = expect(source, tokens, Symbol::Colon)?;
     type_name(source, rest)
@@ -46,7 +45,7 @@ fn variables<'t>(
     source: &Source<'_>,
     tokens: &'t [Token],
 ) -> Result<(Formal, &'t [Token]), ParseError>
-    ensures { Gives (λ x. (x.0, seen source.now.bytes.now x.1.now)) result (spec.variables source.now.end (seen source.now.bytes.now tokens.now)) }
+    ensures { Parses source.now tokens.now result (spec.variables source.now.end) }
 {
     let (by_reference, rest) = optional_var(source, tokens)?;
     let (names, rest) = names(source, rest)?;
@@ -68,7 +67,7 @@ pub fn optional_formals<'t>(
     tokens: &'t [Token],
     depth: u32,
 ) -> Result<(Option<Formals>, &'t [Token]), ParseError>
-    ensures { Gives (λ x. (x.0, seen source.now.bytes.now x.1.now)) result (spec.optional_formals (levels.formals source.now.end depth) (seen source.now.bytes.now tokens.now)) }
+    ensures { Parses source.now tokens.now result (spec.optional_formals (levels.formals source.now.end depth)) }
 {
     if is(source, tokens, Symbol::Open) {
         let (formals, rest) = formals(source, tokens, depth)?;
@@ -85,7 +84,7 @@ fn boxed_formals<'t>(
     tokens: &'t [Token],
     depth: u32,
 ) -> Result<(Option<Boxed<Formals>>, &'t [Token]), ParseError>
-    ensures { Gives (λ x. (x.0, seen source.now.bytes.now x.1.now)) result (spec.optional_formals (levels.formals source.now.end depth) (seen source.now.bytes.now tokens.now)) }
+    ensures { Parses source.now tokens.now result (spec.optional_formals (levels.formals source.now.end depth)) }
 {
     if is(source, tokens, Symbol::Open) {
         let (formals, rest) = formals(source, tokens, depth)?;
@@ -102,7 +101,7 @@ fn procedure<'t>(
     tokens: &'t [Token],
     depth: u32,
 ) -> Result<(Formal, &'t [Token]), ParseError>
-    ensures { Gives (λ x. (x.0, seen source.now.bytes.now x.1.now)) result (spec.procedure source.now.end (levels.formals source.now.end depth) (seen source.now.bytes.now tokens.now)) }
+    ensures { Parses source.now tokens.now result (spec.procedure source.now.end (levels.formals source.now.end depth)) }
 {
     let rest = expect_word(source, tokens, Word::KwProcedure)?;
     let (name, rest) = identifier(source, rest)?;
@@ -123,7 +122,7 @@ fn function<'t>(
     tokens: &'t [Token],
     depth: u32,
 ) -> Result<(Formal, &'t [Token]), ParseError>
-    ensures { Gives (λ x. (x.0, seen source.now.bytes.now x.1.now)) result (spec.function source.now.end (levels.formals source.now.end depth) (seen source.now.bytes.now tokens.now)) }
+    ensures { Parses source.now tokens.now result (spec.function source.now.end (levels.formals source.now.end depth)) }
 {
     let rest = expect_word(source, tokens, Word::KwFunction)?;
     let (name, rest) = identifier(source, rest)?;
@@ -146,7 +145,7 @@ fn formal<'t>(
     tokens: &'t [Token],
     depth: u32,
 ) -> Result<(Formal, &'t [Token]), ParseError>
-    ensures { Gives (λ x. (x.0, seen source.now.bytes.now x.1.now)) result (spec.formal source.now.end (levels.formals source.now.end depth) (seen source.now.bytes.now tokens.now)) }
+    ensures { Parses source.now tokens.now result (spec.formal source.now.end (levels.formals source.now.end depth)) }
 {
     if is_word(source, tokens, Word::KwProcedure) {
         return procedure(source, tokens, depth);
@@ -166,7 +165,7 @@ fn next_formal<'t>(
     depth: u32,
     all: FormalList,
 ) -> Result<(FormalList, &'t [Token]), ParseError>
-    ensures { Gives (λ x. (x.0, seen source.now.bytes.now x.1.now)) result (spec.next_formal source.now.end (levels.formals source.now.end depth) all (seen source.now.bytes.now tokens.now)) }
+    ensures { Parses source.now tokens.now result (spec.next_formal source.now.end (levels.formals source.now.end depth) all) }
 {
     let mut all = all;
     let rest = expect(source, tokens, Symbol::Semicolon)?;
@@ -183,7 +182,7 @@ fn more_formals<'t>(
     depth: u32,
     first: FormalList,
 ) -> Result<(FormalList, &'t [Token]), ParseError>
-    ensures { Gives (λ x. (x.0, seen source.now.bytes.now x.1.now)) result (spec.more_formals source.now.end (levels.formals source.now.end depth) first (seen source.now.bytes.now tokens.now)) }
+    ensures { Parses source.now tokens.now result (spec.more_formals source.now.end (levels.formals source.now.end depth) first) }
 {
     let mut all = first;
     let mut rest = tokens;
@@ -206,7 +205,7 @@ fn listed_formals<'t>(
     tokens: &'t [Token],
     depth: u32,
 ) -> Result<(FormalList, &'t [Token]), ParseError>
-    ensures { Gives (λ x. (x.0, seen source.now.bytes.now x.1.now)) result (spec.listed_formals source.now.end (levels.formals source.now.end depth) (seen source.now.bytes.now tokens.now)) }
+    ensures { Parses source.now tokens.now result (spec.listed_formals source.now.end (levels.formals source.now.end depth)) }
 {
     let (item, rest) = formal(source, tokens, depth)?;
     let mut first = Items::new(source.alloc);
@@ -222,7 +221,7 @@ fn formals_by<'t>(
     tokens: &'t [Token],
     depth: u32,
 ) -> Result<(Formals, &'t [Token]), ParseError>
-    ensures { Gives (λ x. (x.0, seen source.now.bytes.now x.1.now)) result (spec.formals_by source.now.end (levels.formals source.now.end depth) (seen source.now.bytes.now tokens.now)) }
+    ensures { Parses source.now tokens.now result (spec.formals_by source.now.end (levels.formals source.now.end depth)) }
 {
     let rest = expect(source, tokens, Symbol::Open)?;
     let (list, rest) = listed_formals(source, rest, depth)?;
@@ -238,7 +237,7 @@ pub fn formals<'t>(
     tokens: &'t [Token],
     depth: u32,
 ) -> Result<(Formals, &'t [Token]), ParseError>
-    ensures { Gives (λ x. (x.0, seen source.now.bytes.now x.1.now)) result (levels.formals source.now.end depth (seen source.now.bytes.now tokens.now)) }
+    ensures { Parses source.now tokens.now result (levels.formals source.now.end depth) }
 {
     if depth == 0 {
         return Err(too_deep(tokens));

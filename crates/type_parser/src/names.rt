@@ -1,7 +1,6 @@
 //! Lists of names, and names of types.
 ghost use Rattle.std.specs.Prelude.{◌≡◌};
-ghost use Rattle.token_parsing.specs.Parser.{Gives};
-ghost use Rattle.expr_parser.specs.Tokens.{seen};
+ghost use Rattle.expr_parser.specs.Parsing.{Parses};
 ghost use Rattle.type_parser.specs.Names as spec;
 
 use dialect_lexer::{Symbol, Token, Word};
@@ -18,7 +17,7 @@ fn next_name<'t>(
     tokens: &'t [Token],
     all: Identifiers,
 ) -> Result<(Identifiers, &'t [Token]), ParseError>
-    ensures { Gives (λ x. (x.0, seen source.now.bytes.now x.1.now)) result (spec.next_name all (seen source.now.bytes.now tokens.now)) }
+    ensures { Parses source.now tokens.now result (spec.next_name all) }
 {
     let mut all = all;
     let rest = expect(source, tokens, Symbol::Comma)?;
@@ -33,7 +32,7 @@ fn more_names<'t>(
     tokens: &'t [Token],
     first: Identifiers,
 ) -> Result<(Identifiers, &'t [Token]), ParseError>
-    ensures { Gives (λ x. (x.0, seen source.now.bytes.now x.1.now)) result (spec.more_names first (seen source.now.bytes.now tokens.now)) }
+    ensures { Parses source.now tokens.now result (spec.more_names first) }
 {
     let mut all = first;
     let mut rest = tokens;
@@ -54,7 +53,7 @@ pub fn names<'t>(
     source: &Source<'_>,
     tokens: &'t [Token],
 ) -> Result<(Identifiers, &'t [Token]), ParseError>
-    ensures { Gives (λ x. (x.0, seen source.now.bytes.now x.1.now)) result (spec.names (seen source.now.bytes.now tokens.now)) }
+    ensures { Parses source.now tokens.now result spec.names }
 {
     let (item, rest) = identifier(source, tokens)?;
     let mut first = Items::new(source.alloc);
@@ -68,7 +67,7 @@ fn string_name<'t>(
     source: &Source<'_>,
     tokens: &'t [Token],
 ) -> Result<(TypeName, &'t [Token]), ParseError>
-    ensures { Gives (λ x. (x.0, seen source.now.bytes.now x.1.now)) result (spec.string_name source.now.end (seen source.now.bytes.now tokens.now)) }
+    ensures { Parses source.now tokens.now result (spec.string_name source.now.end) }
 {
     let rest = expect_word(source, tokens, Word::KwString)?;
     let span = span_between(source, tokens, rest);
@@ -81,7 +80,7 @@ pub fn type_name<'t>(
     source: &Source<'_>,
     tokens: &'t [Token],
 ) -> Result<(TypeName, &'t [Token]), ParseError>
-    ensures { Gives (λ x. (x.0, seen source.now.bytes.now x.1.now)) result (spec.type_name source.now.end (seen source.now.bytes.now tokens.now)) }
+    ensures { Parses source.now tokens.now result (spec.type_name source.now.end) }
 {
     if is_identifier(source, tokens) {
         let (name, rest) = identifier(source, tokens)?;

@@ -1,6 +1,7 @@
 //! Types without types in them.
 ghost use Rattle.std.specs.Prelude.{◌≡◌};
-ghost use Rattle.token_parsing.specs.Parser.{Gives, begins};
+ghost use Rattle.token_parsing.specs.Parser.{begins};
+ghost use Rattle.expr_parser.specs.Parsing.{Parses};
 ghost use Rattle.expr_parser.specs.Tokens.{seen};
 ghost use Rattle.type_parser.specs.Types as spec;
 
@@ -19,7 +20,7 @@ fn pointer<'t>(
     source: &Source<'_>,
     tokens: &'t [Token],
 ) -> Result<(TypeNode, &'t [Token]), ParseError>
-    ensures { Gives (λ x. (x.0, seen source.now.bytes.now x.1.now)) result (spec.pointer source.now.end (seen source.now.bytes.now tokens.now)) }
+    ensures { Parses source.now tokens.now result (spec.pointer source.now.end) }
 {
     let rest = expect(source, tokens, Symbol::Caret)?;
     let (domain, rest) = identifier(source, rest)?;
@@ -33,7 +34,7 @@ fn enumeration<'t>(
     source: &Source<'_>,
     tokens: &'t [Token],
 ) -> Result<(TypeNode, &'t [Token]), ParseError>
-    ensures { Gives (λ x. (x.0, seen source.now.bytes.now x.1.now)) result (spec.enumeration source.now.end (seen source.now.bytes.now tokens.now)) }
+    ensures { Parses source.now tokens.now result (spec.enumeration source.now.end) }
 {
     let rest = expect(source, tokens, Symbol::Open)?;
     let (names, rest) = names(source, rest)?;
@@ -48,7 +49,7 @@ fn subrange<'t>(
     source: &Source<'_>,
     tokens: &'t [Token],
 ) -> Result<(TypeNode, &'t [Token]), ParseError>
-    ensures { Gives (λ x. (x.0, seen source.now.bytes.now x.1.now)) result (spec.subrange source.now.end (seen source.now.bytes.now tokens.now)) }
+    ensures { Parses source.now tokens.now result (spec.subrange source.now.end) }
 {
     let (first, rest) = constant(source, tokens)?;
     let rest = expect(source, rest, Symbol::DotDot)?;
@@ -62,7 +63,7 @@ fn named<'t>(
     source: &Source<'_>,
     tokens: &'t [Token],
 ) -> Result<(TypeNode, &'t [Token]), ParseError>
-    ensures { Gives (λ x. (x.0, seen source.now.bytes.now x.1.now)) result (spec.named (seen source.now.bytes.now tokens.now)) }
+    ensures { Parses source.now tokens.now result spec.named }
 {
     let (name, rest) = identifier(source, tokens)?;
     Ok((TypeNode::Name(name), rest))
@@ -74,7 +75,7 @@ fn optional_limit<'t>(
     source: &Source<'_>,
     tokens: &'t [Token],
 ) -> Result<(Option<Constant>, &'t [Token]), ParseError>
-    ensures { Gives (λ x. (x.0, seen source.now.bytes.now x.1.now)) result (spec.optional_limit source.now.end (seen source.now.bytes.now tokens.now)) }
+    ensures { Parses source.now tokens.now result (spec.optional_limit source.now.end) }
 {
     if is(source, tokens, Symbol::OpenBracket) {
         let rest = expect(source, tokens, Symbol::OpenBracket)?;
@@ -90,7 +91,7 @@ fn string_type<'t>(
     source: &Source<'_>,
     tokens: &'t [Token],
 ) -> Result<(TypeNode, &'t [Token]), ParseError>
-    ensures { Gives (λ x. (x.0, seen source.now.bytes.now x.1.now)) result (spec.string_type source.now.end (seen source.now.bytes.now tokens.now)) }
+    ensures { Parses source.now tokens.now result (spec.string_type source.now.end) }
 {
     let rest = expect_word(source, tokens, Word::KwString)?;
     let (limit, rest) = optional_limit(source, rest)?;
@@ -111,7 +112,7 @@ pub fn simple_type<'t>(
     source: &Source<'_>,
     tokens: &'t [Token],
 ) -> Result<(TypeNode, &'t [Token]), ParseError>
-    ensures { Gives (λ x. (x.0, seen source.now.bytes.now x.1.now)) result (spec.simple_type source.now.end (seen source.now.bytes.now tokens.now)) }
+    ensures { Parses source.now tokens.now result (spec.simple_type source.now.end) }
 {
     if is_name_alone(source, tokens) {
         return named(source, tokens);
@@ -134,7 +135,7 @@ pub fn optional_packed<'t>(
     source: &Source<'_>,
     tokens: &'t [Token],
 ) -> Result<(bool, &'t [Token]), ParseError>
-    ensures { Gives (λ x. (x.0, seen source.now.bytes.now x.1.now)) result (spec.optional_packed (seen source.now.bytes.now tokens.now)) }
+    ensures { Parses source.now tokens.now result spec.optional_packed }
 {
     if is_word(source, tokens, Word::KwPacked) {
         let rest = expect_word(source, tokens, Word::KwPacked)?;

@@ -1,8 +1,7 @@
 //! Types and lists of fields, by recursive descent. `depth` is how many levels may still nest; a type
 //! and a list of fields are one each.
 ghost use Rattle.std.specs.Prelude.{◌≡◌};
-ghost use Rattle.token_parsing.specs.Parser.{Gives};
-ghost use Rattle.expr_parser.specs.Tokens.{seen};
+ghost use Rattle.expr_parser.specs.Parsing.{Parses};
 ghost use Rattle.type_parser.specs.Types as spec;
 ghost use Rattle.type_parser.specs.Fields as fields_spec;
 ghost use Rattle.type_parser.specs.Levels as levels;
@@ -31,7 +30,7 @@ fn of_type<'t>(
     tokens: &'t [Token],
     depth: u32,
 ) -> Result<(TypeNode, &'t [Token]), ParseError>
-    ensures { Gives (λ x. (x.0, seen source.now.bytes.now x.1.now)) result (spec.of_type (levels.type_node source.now.dialect source.now.end depth) (seen source.now.bytes.now tokens.now)) }
+    ensures { Parses source.now tokens.now result (spec.of_type (levels.type_node source.now.dialect source.now.end depth)) }
 {
     let rest = expect_word(source, tokens, Word::KwOf)?;
     type_node(source, rest, depth)
@@ -46,7 +45,7 @@ fn next_type<'t>(
     depth: u32,
     all: TypeNodes,
 ) -> Result<(TypeNodes, &'t [Token]), ParseError>
-    ensures { Gives (λ x. (x.0, seen source.now.bytes.now x.1.now)) result (spec.next_type (levels.type_node source.now.dialect source.now.end depth) all (seen source.now.bytes.now tokens.now)) }
+    ensures { Parses source.now tokens.now result (spec.next_type (levels.type_node source.now.dialect source.now.end depth) all) }
 {
     let mut all = all;
     let rest = expect(source, tokens, Symbol::Comma)?;
@@ -63,7 +62,7 @@ fn more_types<'t>(
     depth: u32,
     first: TypeNodes,
 ) -> Result<(TypeNodes, &'t [Token]), ParseError>
-    ensures { Gives (λ x. (x.0, seen source.now.bytes.now x.1.now)) result (spec.more_types (levels.type_node source.now.dialect source.now.end depth) first (seen source.now.bytes.now tokens.now)) }
+    ensures { Parses source.now tokens.now result (spec.more_types (levels.type_node source.now.dialect source.now.end depth) first) }
 {
     let mut all = first;
     let mut rest = tokens;
@@ -86,7 +85,7 @@ fn types<'t>(
     tokens: &'t [Token],
     depth: u32,
 ) -> Result<(TypeNodes, &'t [Token]), ParseError>
-    ensures { Gives (λ x. (x.0, seen source.now.bytes.now x.1.now)) result (spec.types (levels.type_node source.now.dialect source.now.end depth) (seen source.now.bytes.now tokens.now)) }
+    ensures { Parses source.now tokens.now result (spec.types (levels.type_node source.now.dialect source.now.end depth)) }
 {
     let (item, rest) = type_node(source, tokens, depth)?;
     let mut first = Items::new(source.alloc);
@@ -102,7 +101,7 @@ fn indexes<'t>(
     tokens: &'t [Token],
     depth: u32,
 ) -> Result<(TypeNodes, &'t [Token]), ParseError>
-    ensures { Gives (λ x. (x.0, seen source.now.bytes.now x.1.now)) result (spec.indexes (levels.type_node source.now.dialect source.now.end depth) (seen source.now.bytes.now tokens.now)) }
+    ensures { Parses source.now tokens.now result (spec.indexes (levels.type_node source.now.dialect source.now.end depth)) }
 {
     let rest = expect(source, tokens, Symbol::OpenBracket)?;
     let (all, rest) = types(source, rest, depth)?;
@@ -117,7 +116,7 @@ fn array<'t>(
     tokens: &'t [Token],
     depth: u32,
 ) -> Result<(Struct, &'t [Token]), ParseError>
-    ensures { Gives (λ x. (x.0, seen source.now.bytes.now x.1.now)) result (spec.array source.now.end (levels.type_node source.now.dialect source.now.end depth) (seen source.now.bytes.now tokens.now)) }
+    ensures { Parses source.now tokens.now result (spec.array source.now.end (levels.type_node source.now.dialect source.now.end depth)) }
 {
     let rest = expect_word(source, tokens, Word::KwArray)?;
     let (indexes, rest) = indexes(source, rest, depth)?;
@@ -139,7 +138,7 @@ fn record<'t>(
     tokens: &'t [Token],
     depth: u32,
 ) -> Result<(Struct, &'t [Token]), ParseError>
-    ensures { Gives (λ x. (x.0, seen source.now.bytes.now x.1.now)) result (spec.record_type source.now.end (levels.fields source.now.dialect source.now.end depth) (seen source.now.bytes.now tokens.now)) }
+    ensures { Parses source.now tokens.now result (spec.record_type source.now.end (levels.fields source.now.dialect source.now.end depth)) }
 {
     let rest = expect_word(source, tokens, Word::KwRecord)?;
     let (fields, rest) = fields(source, rest, depth)?;
@@ -155,7 +154,7 @@ fn set<'t>(
     tokens: &'t [Token],
     depth: u32,
 ) -> Result<(Struct, &'t [Token]), ParseError>
-    ensures { Gives (λ x. (x.0, seen source.now.bytes.now x.1.now)) result (spec.set_type source.now.end (levels.type_node source.now.dialect source.now.end depth) (seen source.now.bytes.now tokens.now)) }
+    ensures { Parses source.now tokens.now result (spec.set_type source.now.end (levels.type_node source.now.dialect source.now.end depth)) }
 {
     let rest = expect_word(source, tokens, Word::KwSet)?;
     let (base, rest) = of_type(source, rest, depth)?;
@@ -171,7 +170,7 @@ fn file<'t>(
     tokens: &'t [Token],
     depth: u32,
 ) -> Result<(Struct, &'t [Token]), ParseError>
-    ensures { Gives (λ x. (x.0, seen source.now.bytes.now x.1.now)) result (spec.file_type source.now.end (levels.type_node source.now.dialect source.now.end depth) (seen source.now.bytes.now tokens.now)) }
+    ensures { Parses source.now tokens.now result (spec.file_type source.now.end (levels.type_node source.now.dialect source.now.end depth)) }
 {
     let rest = expect_word(source, tokens, Word::KwFile)?;
     let (component, rest) = of_type(source, rest, depth)?;
@@ -187,7 +186,7 @@ fn structure<'t>(
     tokens: &'t [Token],
     depth: u32,
 ) -> Result<(Struct, &'t [Token]), ParseError>
-    ensures { Gives (λ x. (x.0, seen source.now.bytes.now x.1.now)) result (spec.structure source.now.end (levels.type_node source.now.dialect source.now.end depth) (levels.fields source.now.dialect source.now.end depth) (seen source.now.bytes.now tokens.now)) }
+    ensures { Parses source.now tokens.now result (spec.structure source.now.end (levels.type_node source.now.dialect source.now.end depth) (levels.fields source.now.dialect source.now.end depth)) }
 {
     if is_word(source, tokens, Word::KwArray) {
         return array(source, tokens, depth);
@@ -209,7 +208,7 @@ fn structured<'t>(
     tokens: &'t [Token],
     depth: u32,
 ) -> Result<(TypeNode, &'t [Token]), ParseError>
-    ensures { Gives (λ x. (x.0, seen source.now.bytes.now x.1.now)) result (spec.structured source.now.end (levels.type_node source.now.dialect source.now.end depth) (levels.fields source.now.dialect source.now.end depth) (seen source.now.bytes.now tokens.now)) }
+    ensures { Parses source.now tokens.now result (spec.structured source.now.end (levels.type_node source.now.dialect source.now.end depth) (levels.fields source.now.dialect source.now.end depth)) }
 {
     let (packed, rest) = optional_packed(source, tokens)?;
     let (of, rest) = structure(source, rest, depth)?;
@@ -225,7 +224,7 @@ fn type_by<'t>(
     tokens: &'t [Token],
     depth: u32,
 ) -> Result<(TypeNode, &'t [Token]), ParseError>
-    ensures { Gives (λ x. (x.0, seen source.now.bytes.now x.1.now)) result (spec.type_by source.now.end (levels.type_node source.now.dialect source.now.end depth) (levels.fields source.now.dialect source.now.end depth) (seen source.now.bytes.now tokens.now)) }
+    ensures { Parses source.now tokens.now result (spec.type_by source.now.end (levels.type_node source.now.dialect source.now.end depth) (levels.fields source.now.dialect source.now.end depth)) }
 {
     if is_structured(source, tokens) {
         return structured(source, tokens, depth);
@@ -240,7 +239,7 @@ pub fn type_node<'t>(
     tokens: &'t [Token],
     depth: u32,
 ) -> Result<(TypeNode, &'t [Token]), ParseError>
-    ensures { Gives (λ x. (x.0, seen source.now.bytes.now x.1.now)) result (levels.type_node source.now.dialect source.now.end depth (seen source.now.bytes.now tokens.now)) }
+    ensures { Parses source.now tokens.now result (levels.type_node source.now.dialect source.now.end depth) }
 {
     if depth == 0 {
         return Err(too_deep(tokens));
@@ -256,7 +255,7 @@ fn section<'t>(
     tokens: &'t [Token],
     depth: u32,
 ) -> Result<(FixedSection, &'t [Token]), ParseError>
-    ensures { Gives (λ x. (x.0, seen source.now.bytes.now x.1.now)) result (fields_spec.section source.now.end (levels.type_node source.now.dialect source.now.end depth) (seen source.now.bytes.now tokens.now)) }
+    ensures { Parses source.now tokens.now result (fields_spec.section source.now.end (levels.type_node source.now.dialect source.now.end depth)) }
 {
     let (names, rest) = names(source, tokens)?;
     let rest = expect(source, rest, Symbol::Colon)?;
@@ -274,7 +273,7 @@ fn next_section<'t>(
     depth: u32,
     all: FixedSections,
 ) -> Result<(FixedSections, &'t [Token]), ParseError>
-    ensures { Gives (λ x. (x.0, seen source.now.bytes.now x.1.now)) result (fields_spec.next_section source.now.end (levels.type_node source.now.dialect source.now.end depth) all (seen source.now.bytes.now tokens.now)) }
+    ensures { Parses source.now tokens.now result (fields_spec.next_section source.now.end (levels.type_node source.now.dialect source.now.end depth) all) }
 {
     let mut all = all;
     let rest = expect(source, tokens, Symbol::Semicolon)?;
@@ -291,7 +290,7 @@ fn more_sections<'t>(
     depth: u32,
     first: FixedSections,
 ) -> Result<(FixedSections, &'t [Token]), ParseError>
-    ensures { Gives (λ x. (x.0, seen source.now.bytes.now x.1.now)) result (fields_spec.more_sections source.now.end (levels.type_node source.now.dialect source.now.end depth) first (seen source.now.bytes.now tokens.now)) }
+    ensures { Parses source.now tokens.now result (fields_spec.more_sections source.now.end (levels.type_node source.now.dialect source.now.end depth) first) }
 {
     let mut all = first;
     let mut rest = tokens;
@@ -314,7 +313,7 @@ fn fixed<'t>(
     tokens: &'t [Token],
     depth: u32,
 ) -> Result<(Fixed, &'t [Token]), ParseError>
-    ensures { Gives (λ x. (x.0, seen source.now.bytes.now x.1.now)) result (fields_spec.fixed source.now.end (levels.type_node source.now.dialect source.now.end depth) (seen source.now.bytes.now tokens.now)) }
+    ensures { Parses source.now tokens.now result (fields_spec.fixed source.now.end (levels.type_node source.now.dialect source.now.end depth)) }
 {
     let (item, rest) = section(source, tokens, depth)?;
     let mut first = Items::new(source.alloc);
@@ -332,7 +331,7 @@ fn group<'t>(
     tokens: &'t [Token],
     depth: u32,
 ) -> Result<(Fields, &'t [Token]), ParseError>
-    ensures { Gives (λ x. (x.0, seen source.now.bytes.now x.1.now)) result (fields_spec.group (levels.fields source.now.dialect source.now.end depth) (seen source.now.bytes.now tokens.now)) }
+    ensures { Parses source.now tokens.now result (fields_spec.group (levels.fields source.now.dialect source.now.end depth)) }
 {
     let rest = expect(source, tokens, Symbol::Open)?;
     let (fields, rest) = fields(source, rest, depth)?;
@@ -347,7 +346,7 @@ fn variant<'t>(
     tokens: &'t [Token],
     depth: u32,
 ) -> Result<(Variant, &'t [Token]), ParseError>
-    ensures { Gives (λ x. (x.0, seen source.now.bytes.now x.1.now)) result (fields_spec.variant source.now.dialect source.now.end (levels.fields source.now.dialect source.now.end depth) (seen source.now.bytes.now tokens.now)) }
+    ensures { Parses source.now tokens.now result (fields_spec.variant source.now.dialect source.now.end (levels.fields source.now.dialect source.now.end depth)) }
 {
     let (labels, rest) = case_labels(source, tokens)?;
     let rest = expect(source, rest, Symbol::Colon)?;
@@ -370,7 +369,7 @@ fn next_variant<'t>(
     depth: u32,
     all: VariantList,
 ) -> Result<(VariantList, &'t [Token]), ParseError>
-    ensures { Gives (λ x. (x.0, seen source.now.bytes.now x.1.now)) result (fields_spec.next_variant source.now.dialect source.now.end (levels.fields source.now.dialect source.now.end depth) all (seen source.now.bytes.now tokens.now)) }
+    ensures { Parses source.now tokens.now result (fields_spec.next_variant source.now.dialect source.now.end (levels.fields source.now.dialect source.now.end depth) all) }
 {
     let mut all = all;
     let rest = expect(source, tokens, Symbol::Semicolon)?;
@@ -387,7 +386,7 @@ fn more_variants<'t>(
     depth: u32,
     first: VariantList,
 ) -> Result<(VariantList, &'t [Token]), ParseError>
-    ensures { Gives (λ x. (x.0, seen source.now.bytes.now x.1.now)) result (fields_spec.more_variants source.now.dialect source.now.end (levels.fields source.now.dialect source.now.end depth) first (seen source.now.bytes.now tokens.now)) }
+    ensures { Parses source.now tokens.now result (fields_spec.more_variants source.now.dialect source.now.end (levels.fields source.now.dialect source.now.end depth) first) }
 {
     let mut all = first;
     let mut rest = tokens;
@@ -410,7 +409,7 @@ fn variant_list<'t>(
     tokens: &'t [Token],
     depth: u32,
 ) -> Result<(VariantList, &'t [Token]), ParseError>
-    ensures { Gives (λ x. (x.0, seen source.now.bytes.now x.1.now)) result (fields_spec.variant_list source.now.dialect source.now.end (levels.fields source.now.dialect source.now.end depth) (seen source.now.bytes.now tokens.now)) }
+    ensures { Parses source.now tokens.now result (fields_spec.variant_list source.now.dialect source.now.end (levels.fields source.now.dialect source.now.end depth)) }
 {
     let (item, rest) = variant(source, tokens, depth)?;
     let mut first = Items::new(source.alloc);
@@ -426,7 +425,7 @@ fn variants<'t>(
     tokens: &'t [Token],
     depth: u32,
 ) -> Result<(Variants, &'t [Token]), ParseError>
-    ensures { Gives (λ x. (x.0, seen source.now.bytes.now x.1.now)) result (fields_spec.variants source.now.dialect source.now.end (levels.fields source.now.dialect source.now.end depth) (seen source.now.bytes.now tokens.now)) }
+    ensures { Parses source.now tokens.now result (fields_spec.variants source.now.dialect source.now.end (levels.fields source.now.dialect source.now.end depth)) }
 {
     let ((tag, of), rest) = selector(source, tokens)?;
     let (list, rest) = variant_list(source, rest, depth)?;
@@ -448,7 +447,7 @@ fn optional_variants<'t>(
     tokens: &'t [Token],
     depth: u32,
 ) -> Result<(Option<Boxed<Variants>>, &'t [Token]), ParseError>
-    ensures { Gives (λ x. (x.0, seen source.now.bytes.now x.1.now)) result (fields_spec.optional_variants source.now.dialect source.now.end (levels.fields source.now.dialect source.now.end depth) (seen source.now.bytes.now tokens.now)) }
+    ensures { Parses source.now tokens.now result (fields_spec.optional_variants source.now.dialect source.now.end (levels.fields source.now.dialect source.now.end depth)) }
 {
     if is_more_variants(source, tokens) {
         let rest = expect(source, tokens, Symbol::Semicolon)?;
@@ -467,7 +466,7 @@ fn with_fixed<'t>(
     tokens: &'t [Token],
     depth: u32,
 ) -> Result<(Fields, &'t [Token]), ParseError>
-    ensures { Gives (λ x. (x.0, seen source.now.bytes.now x.1.now)) result (fields_spec.with_fixed source.now.dialect source.now.end (levels.type_node source.now.dialect source.now.end depth) (levels.fields source.now.dialect source.now.end depth) (seen source.now.bytes.now tokens.now)) }
+    ensures { Parses source.now tokens.now result (fields_spec.with_fixed source.now.dialect source.now.end (levels.type_node source.now.dialect source.now.end depth) (levels.fields source.now.dialect source.now.end depth)) }
 {
     let (fixed, rest) = fixed(source, tokens, depth)?;
     let (variants, rest) = optional_variants(source, rest, depth)?;
@@ -490,7 +489,7 @@ fn only_variants<'t>(
     tokens: &'t [Token],
     depth: u32,
 ) -> Result<(Fields, &'t [Token]), ParseError>
-    ensures { Gives (λ x. (x.0, seen source.now.bytes.now x.1.now)) result (fields_spec.only_variants source.now.dialect source.now.end (levels.fields source.now.dialect source.now.end depth) (seen source.now.bytes.now tokens.now)) }
+    ensures { Parses source.now tokens.now result (fields_spec.only_variants source.now.dialect source.now.end (levels.fields source.now.dialect source.now.end depth)) }
 {
     let (variants, rest) = variants(source, tokens, depth)?;
     let variants = Boxed::new(source.alloc, variants)?;
@@ -513,7 +512,7 @@ fn fields_by<'t>(
     tokens: &'t [Token],
     depth: u32,
 ) -> Result<(Fields, &'t [Token]), ParseError>
-    ensures { Gives (λ x. (x.0, seen source.now.bytes.now x.1.now)) result (fields_spec.fields_by source.now.dialect source.now.end (levels.type_node source.now.dialect source.now.end depth) (levels.fields source.now.dialect source.now.end depth) (seen source.now.bytes.now tokens.now)) }
+    ensures { Parses source.now tokens.now result (fields_spec.fields_by source.now.dialect source.now.end (levels.type_node source.now.dialect source.now.end depth) (levels.fields source.now.dialect source.now.end depth)) }
 {
     if is_identifier(source, tokens) {
         return with_fixed(source, tokens, depth);
@@ -530,7 +529,7 @@ fn fields<'t>(
     tokens: &'t [Token],
     depth: u32,
 ) -> Result<(Fields, &'t [Token]), ParseError>
-    ensures { Gives (λ x. (x.0, seen source.now.bytes.now x.1.now)) result (levels.fields source.now.dialect source.now.end depth (seen source.now.bytes.now tokens.now)) }
+    ensures { Parses source.now tokens.now result (levels.fields source.now.dialect source.now.end depth) }
 {
     if depth == 0 {
         return Err(too_deep(tokens));

@@ -1,9 +1,10 @@
 use p2c_text::{Names, Span};
 use std::alloc::AllocError;
+use std::fmt::{self, Debug, Formatter, Write};
 use thiserror::Error;
 
 /// Why files are no program with its units. The first that holds is answered.
-#[derive(Debug, Drop, Error)]
+#[derive(Drop, Error)]
 pub enum LinkFault {
     /// No file is a program.
     #[error("no program")]
@@ -23,4 +24,10 @@ pub enum LinkFault {
     Cycle(Names, Span),
     #[error("out of memory")]
     Memory(AllocError),
+}
+
+impl Debug for LinkFault {
+    fn fmt<W: Write>(&self, f: &mut Formatter<W>) -> fmt::Result {
+        write!(f, "{self}")
+    }
 }

@@ -1,7 +1,6 @@
 //! Declarations and blocks, by recursive descent. `depth` is how many levels may still nest; a block is one.
 ghost use Rattle.std.specs.Prelude.{◌≡◌};
-ghost use Rattle.token_parsing.specs.Parser.{Gives};
-ghost use Rattle.expr_parser.specs.Tokens.{seen};
+ghost use Rattle.expr_parser.specs.Parsing.{Parses};
 ghost use Rattle.unit_parser.specs.Blocks as spec;
 
 use crate::parts::{const_part, heading, label_part, type_part, var_part};
@@ -23,7 +22,7 @@ fn routine_body<'t>(
     tokens: &'t [Token],
     depth: u32,
 ) -> Result<(RoutineBody, &'t [Token]), ParseError>
-    ensures { Gives (λ x. (x.0, seen source.now.bytes.now x.1.now)) result (spec.routine_body (spec.block source.now.dialect source.now.end depth) (seen source.now.bytes.now tokens.now)) }
+    ensures { Parses source.now tokens.now result (spec.routine_body (spec.block source.now.dialect source.now.end depth)) }
 {
     if is_identifier(source, tokens) {
         let (name, rest) = identifier(source, tokens)?;
@@ -41,7 +40,7 @@ fn routine<'t>(
     tokens: &'t [Token],
     depth: u32,
 ) -> Result<(Routine, &'t [Token]), ParseError>
-    ensures { Gives (λ x. (x.0, seen source.now.bytes.now x.1.now)) result (spec.routine source.now.end depth (spec.block source.now.dialect source.now.end depth) (seen source.now.bytes.now tokens.now)) }
+    ensures { Parses source.now tokens.now result (spec.routine source.now.end depth (spec.block source.now.dialect source.now.end depth)) }
 {
     let (heading, rest) = heading(source, tokens, depth)?;
     let rest = expect(source, rest, Symbol::Semicolon)?;
@@ -61,7 +60,7 @@ fn labels_declared<'t>(
     source: &Source<'_>,
     tokens: &'t [Token],
 ) -> Result<(Declaration, &'t [Token]), ParseError>
-    ensures { Gives (λ x. (x.0, seen source.now.bytes.now x.1.now)) result (spec.labels_declared source.now.dialect source.now.end (seen source.now.bytes.now tokens.now)) }
+    ensures { Parses source.now tokens.now result (spec.labels_declared source.now.dialect source.now.end) }
 {
     let (part, rest) = label_part(source, tokens)?;
     Ok((Declaration::Labels(part), rest))
@@ -73,7 +72,7 @@ fn constants_declared<'t>(
     tokens: &'t [Token],
     depth: u32,
 ) -> Result<(Declaration, &'t [Token]), ParseError>
-    ensures { Gives (λ x. (x.0, seen source.now.bytes.now x.1.now)) result (spec.constants_declared source.now.dialect source.now.end depth (seen source.now.bytes.now tokens.now)) }
+    ensures { Parses source.now tokens.now result (spec.constants_declared source.now.dialect source.now.end depth) }
 {
     let (part, rest) = const_part(source, tokens, depth)?;
     Ok((Declaration::Constants(part), rest))
@@ -85,7 +84,7 @@ fn types_declared<'t>(
     tokens: &'t [Token],
     depth: u32,
 ) -> Result<(Declaration, &'t [Token]), ParseError>
-    ensures { Gives (λ x. (x.0, seen source.now.bytes.now x.1.now)) result (spec.types_declared source.now.dialect source.now.end depth (seen source.now.bytes.now tokens.now)) }
+    ensures { Parses source.now tokens.now result (spec.types_declared source.now.dialect source.now.end depth) }
 {
     let (part, rest) = type_part(source, tokens, depth)?;
     Ok((Declaration::Types(part), rest))
@@ -97,7 +96,7 @@ fn variables_declared<'t>(
     tokens: &'t [Token],
     depth: u32,
 ) -> Result<(Declaration, &'t [Token]), ParseError>
-    ensures { Gives (λ x. (x.0, seen source.now.bytes.now x.1.now)) result (spec.variables_declared source.now.dialect source.now.end depth (seen source.now.bytes.now tokens.now)) }
+    ensures { Parses source.now tokens.now result (spec.variables_declared source.now.dialect source.now.end depth) }
 {
     let (part, rest) = var_part(source, tokens, depth)?;
     Ok((Declaration::Variables(part), rest))
@@ -110,7 +109,7 @@ fn routine_declared<'t>(
     tokens: &'t [Token],
     depth: u32,
 ) -> Result<(Declaration, &'t [Token]), ParseError>
-    ensures { Gives (λ x. (x.0, seen source.now.bytes.now x.1.now)) result (spec.routine_declared source.now.end depth (spec.block source.now.dialect source.now.end depth) (seen source.now.bytes.now tokens.now)) }
+    ensures { Parses source.now tokens.now result (spec.routine_declared source.now.end depth (spec.block source.now.dialect source.now.end depth)) }
 {
     let (part, rest) = routine(source, tokens, depth)?;
     Ok((Declaration::Routine(part), rest))
@@ -123,7 +122,7 @@ fn declaration<'t>(
     tokens: &'t [Token],
     depth: u32,
 ) -> Result<(Declaration, &'t [Token]), ParseError>
-    ensures { Gives (λ x. (x.0, seen source.now.bytes.now x.1.now)) result (spec.declaration source.now.dialect source.now.end depth (spec.block source.now.dialect source.now.end depth) (seen source.now.bytes.now tokens.now)) }
+    ensures { Parses source.now tokens.now result (spec.declaration source.now.dialect source.now.end depth (spec.block source.now.dialect source.now.end depth)) }
 {
     if is_word(source, tokens, Word::KwLabel) {
         return labels_declared(source, tokens);
@@ -149,7 +148,7 @@ fn next_declaration<'t>(
     depth: u32,
     all: Declarations,
 ) -> Result<(Declarations, &'t [Token]), ParseError>
-    ensures { Gives (λ x. (x.0, seen source.now.bytes.now x.1.now)) result (spec.next_declaration source.now.dialect source.now.end depth (spec.block source.now.dialect source.now.end depth) all (seen source.now.bytes.now tokens.now)) }
+    ensures { Parses source.now tokens.now result (spec.next_declaration source.now.dialect source.now.end depth (spec.block source.now.dialect source.now.end depth) all) }
 {
     let mut all = all;
     let (item, rest) = declaration(source, tokens, depth)?;
@@ -165,7 +164,7 @@ fn routines<'t>(
     depth: u32,
     first: Declarations,
 ) -> Result<(Declarations, &'t [Token]), ParseError>
-    ensures { Gives (λ x. (x.0, seen source.now.bytes.now x.1.now)) result (spec.routines source.now.dialect source.now.end depth (spec.block source.now.dialect source.now.end depth) first (seen source.now.bytes.now tokens.now)) }
+    ensures { Parses source.now tokens.now result (spec.routines source.now.dialect source.now.end depth (spec.block source.now.dialect source.now.end depth) first) }
 {
     let mut all = first;
     let mut rest = tokens;
@@ -188,7 +187,7 @@ fn any_declarations<'t>(
     depth: u32,
     first: Declarations,
 ) -> Result<(Declarations, &'t [Token]), ParseError>
-    ensures { Gives (λ x. (x.0, seen source.now.bytes.now x.1.now)) result (spec.any_declarations source.now.dialect source.now.end depth (spec.block source.now.dialect source.now.end depth) first (seen source.now.bytes.now tokens.now)) }
+    ensures { Parses source.now tokens.now result (spec.any_declarations source.now.dialect source.now.end depth (spec.block source.now.dialect source.now.end depth) first) }
 {
     let mut all = first;
     let mut rest = tokens;
@@ -213,7 +212,7 @@ fn optional_declaration<'t>(
     word: Word,
     all: Declarations,
 ) -> Result<(Declarations, &'t [Token]), ParseError>
-    ensures { Gives (λ x. (x.0, seen source.now.bytes.now x.1.now)) result (spec.optional_declaration word source.now.dialect source.now.end depth (spec.block source.now.dialect source.now.end depth) all (seen source.now.bytes.now tokens.now)) }
+    ensures { Parses source.now tokens.now result (spec.optional_declaration word source.now.dialect source.now.end depth (spec.block source.now.dialect source.now.end depth) all) }
 {
     if is_word(source, tokens, word) {
         return next_declaration(source, tokens, depth, all);
@@ -229,7 +228,7 @@ fn ordered_declarations<'t>(
     tokens: &'t [Token],
     depth: u32,
 ) -> Result<(Declarations, &'t [Token]), ParseError>
-    ensures { Gives (λ x. (x.0, seen source.now.bytes.now x.1.now)) result (spec.ordered_declarations source.now.dialect source.now.end depth (spec.block source.now.dialect source.now.end depth) (seen source.now.bytes.now tokens.now)) }
+    ensures { Parses source.now tokens.now result (spec.ordered_declarations source.now.dialect source.now.end depth (spec.block source.now.dialect source.now.end depth)) }
 {
     let none = Items::new(source.alloc);
     let (labels, rest) = optional_declaration(source, tokens, depth, Word::KwLabel, none)?;
@@ -247,7 +246,7 @@ pub fn declarations<'t>(
     tokens: &'t [Token],
     depth: u32,
 ) -> Result<(Declarations, &'t [Token]), ParseError>
-    ensures { Gives (λ x. (x.0, seen source.now.bytes.now x.1.now)) result (spec.declarations source.now.dialect source.now.end depth (spec.block source.now.dialect source.now.end depth) (seen source.now.bytes.now tokens.now)) }
+    ensures { Parses source.now tokens.now result (spec.declarations source.now.dialect source.now.end depth (spec.block source.now.dialect source.now.end depth)) }
 {
     match source.dialect {
         Dialect::Iso => ordered_declarations(source, tokens, depth),
@@ -265,7 +264,7 @@ fn block_by<'t>(
     tokens: &'t [Token],
     depth: u32,
 ) -> Result<(Block, &'t [Token]), ParseError>
-    ensures { Gives (λ x. (x.0, seen source.now.bytes.now x.1.now)) result (spec.block_by source.now.dialect source.now.end depth (spec.block source.now.dialect source.now.end depth) (seen source.now.bytes.now tokens.now)) }
+    ensures { Parses source.now tokens.now result (spec.block_by source.now.dialect source.now.end depth (spec.block source.now.dialect source.now.end depth)) }
 {
     let (declarations, rest) = declarations(source, tokens, depth)?;
     let rest = expect_word(source, rest, Word::KwBegin)?;
@@ -287,7 +286,7 @@ pub fn block<'t>(
     tokens: &'t [Token],
     depth: u32,
 ) -> Result<(Block, &'t [Token]), ParseError>
-    ensures { Gives (λ x. (x.0, seen source.now.bytes.now x.1.now)) result (spec.block source.now.dialect source.now.end depth (seen source.now.bytes.now tokens.now)) }
+    ensures { Parses source.now tokens.now result (spec.block source.now.dialect source.now.end depth) }
 {
     if depth == 0 {
         return Err(too_deep(tokens));

@@ -1,6 +1,7 @@
 //! Whole texts. `depth` is how many levels may still nest.
 ghost use Rattle.std.specs.Prelude.{◌≡◌, []};
 ghost use Rattle.token_parsing.specs.Parser.{Gives};
+ghost use Rattle.expr_parser.specs.Parsing.{Parses};
 ghost use Rattle.expr_parser.specs.Tokens.{seen};
 ghost use Rattle.unit_parser.specs.Files as spec;
 
@@ -23,7 +24,7 @@ use type_parser::names::names;
 /// The names of units that are used.
 #[tactic(auto, unfolding(crate::specs::Files::uses))]
 fn uses<'t>(source: &Source<'_>, tokens: &'t [Token]) -> Result<(Uses, &'t [Token]), ParseError>
-    ensures { Gives (λ x. (x.0, seen source.now.bytes.now x.1.now)) result (spec.uses source.now.dialect source.now.end (seen source.now.bytes.now tokens.now)) }
+    ensures { Parses source.now tokens.now result (spec.uses source.now.dialect source.now.end) }
 {
     let rest = expect_word(source, tokens, uses_word(source.dialect))?;
     let (names, rest) = names(source, rest)?;
@@ -37,7 +38,7 @@ fn optional_uses<'t>(
     source: &Source<'_>,
     tokens: &'t [Token],
 ) -> Result<(Option<Uses>, &'t [Token]), ParseError>
-    ensures { Gives (λ x. (x.0, seen source.now.bytes.now x.1.now)) result (spec.optional_uses source.now.dialect source.now.end (seen source.now.bytes.now tokens.now)) }
+    ensures { Parses source.now tokens.now result (spec.optional_uses source.now.dialect source.now.end) }
 {
     if is_word(source, tokens, uses_word(source.dialect)) {
         let (uses, rest) = uses(source, tokens)?;
@@ -52,7 +53,7 @@ fn optional_parameters<'t>(
     source: &Source<'_>,
     tokens: &'t [Token],
 ) -> Result<(Option<Identifiers>, &'t [Token]), ParseError>
-    ensures { Gives (λ x. (x.0, seen source.now.bytes.now x.1.now)) result (spec.optional_parameters (seen source.now.bytes.now tokens.now)) }
+    ensures { Parses source.now tokens.now result spec.optional_parameters }
 {
     if is(source, tokens, Symbol::Open) {
         let rest = expect(source, tokens, Symbol::Open)?;
@@ -65,7 +66,7 @@ fn optional_parameters<'t>(
 
 #[tactic(auto, unfolding(crate::specs::Files::head))]
 fn head<'t>(source: &Source<'_>, tokens: &'t [Token]) -> Result<(Head, &'t [Token]), ParseError>
-    ensures { Gives (λ x. (x.0, seen source.now.bytes.now x.1.now)) result (spec.head source.now.end (seen source.now.bytes.now tokens.now)) }
+    ensures { Parses source.now tokens.now result (spec.head source.now.end) }
 {
     let rest = expect_word(source, tokens, Word::KwProgram)?;
     let (name, rest) = identifier(source, rest)?;
@@ -95,7 +96,7 @@ fn optional_head<'t>(
     source: &Source<'_>,
     tokens: &'t [Token],
 ) -> Result<(Option<Head>, &'t [Token]), ParseError>
-    ensures { Gives (λ x. (x.0, seen source.now.bytes.now x.1.now)) result (spec.optional_head source.now.dialect source.now.end (seen source.now.bytes.now tokens.now)) }
+    ensures { Parses source.now tokens.now result (spec.optional_head source.now.dialect source.now.end) }
 {
     if is_headless(source, tokens) {
         return Ok((None, tokens));
@@ -110,7 +111,7 @@ fn program<'t>(
     tokens: &'t [Token],
     depth: u32,
 ) -> Result<(Program, &'t [Token]), ParseError>
-    ensures { Gives (λ x. (x.0, seen source.now.bytes.now x.1.now)) result (spec.program source.now.dialect source.now.end depth (seen source.now.bytes.now tokens.now)) }
+    ensures { Parses source.now tokens.now result (spec.program source.now.dialect source.now.end depth) }
 {
     let (head, rest) = optional_head(source, tokens)?;
     let (uses, rest) = optional_uses(source, rest)?;
@@ -132,7 +133,7 @@ fn constants_public<'t>(
     tokens: &'t [Token],
     depth: u32,
 ) -> Result<(Public, &'t [Token]), ParseError>
-    ensures { Gives (λ x. (x.0, seen source.now.bytes.now x.1.now)) result (spec.constants_public source.now.dialect source.now.end depth (seen source.now.bytes.now tokens.now)) }
+    ensures { Parses source.now tokens.now result (spec.constants_public source.now.dialect source.now.end depth) }
 {
     let (part, rest) = const_part(source, tokens, depth)?;
     Ok((Public::Constants(part), rest))
@@ -144,7 +145,7 @@ fn types_public<'t>(
     tokens: &'t [Token],
     depth: u32,
 ) -> Result<(Public, &'t [Token]), ParseError>
-    ensures { Gives (λ x. (x.0, seen source.now.bytes.now x.1.now)) result (spec.types_public source.now.dialect source.now.end depth (seen source.now.bytes.now tokens.now)) }
+    ensures { Parses source.now tokens.now result (spec.types_public source.now.dialect source.now.end depth) }
 {
     let (part, rest) = type_part(source, tokens, depth)?;
     Ok((Public::Types(part), rest))
@@ -156,7 +157,7 @@ fn variables_public<'t>(
     tokens: &'t [Token],
     depth: u32,
 ) -> Result<(Public, &'t [Token]), ParseError>
-    ensures { Gives (λ x. (x.0, seen source.now.bytes.now x.1.now)) result (spec.variables_public source.now.dialect source.now.end depth (seen source.now.bytes.now tokens.now)) }
+    ensures { Parses source.now tokens.now result (spec.variables_public source.now.dialect source.now.end depth) }
 {
     let (part, rest) = var_part(source, tokens, depth)?;
     Ok((Public::Variables(part), rest))
@@ -168,7 +169,7 @@ fn heading_public<'t>(
     tokens: &'t [Token],
     depth: u32,
 ) -> Result<(Public, &'t [Token]), ParseError>
-    ensures { Gives (λ x. (x.0, seen source.now.bytes.now x.1.now)) result (spec.heading_public source.now.end depth (seen source.now.bytes.now tokens.now)) }
+    ensures { Parses source.now tokens.now result (spec.heading_public source.now.end depth) }
 {
     let (heading, rest) = heading(source, tokens, depth)?;
     let rest = expect(source, rest, Symbol::Semicolon)?;
@@ -183,7 +184,7 @@ fn public_part<'t>(
     tokens: &'t [Token],
     depth: u32,
 ) -> Result<(Public, &'t [Token]), ParseError>
-    ensures { Gives (λ x. (x.0, seen source.now.bytes.now x.1.now)) result (spec.public source.now.dialect source.now.end depth (seen source.now.bytes.now tokens.now)) }
+    ensures { Parses source.now tokens.now result (spec.public source.now.dialect source.now.end depth) }
 {
     if is_word(source, tokens, Word::KwConst) {
         return constants_public(source, tokens, depth);
@@ -205,7 +206,7 @@ fn next_public<'t>(
     depth: u32,
     all: Publics,
 ) -> Result<(Publics, &'t [Token]), ParseError>
-    ensures { Gives (λ x. (x.0, seen source.now.bytes.now x.1.now)) result (spec.next_public source.now.dialect source.now.end depth all (seen source.now.bytes.now tokens.now)) }
+    ensures { Parses source.now tokens.now result (spec.next_public source.now.dialect source.now.end depth all) }
 {
     let mut all = all;
     let (item, rest) = public_part(source, tokens, depth)?;
@@ -220,7 +221,7 @@ fn publics<'t>(
     depth: u32,
     first: Publics,
 ) -> Result<(Publics, &'t [Token]), ParseError>
-    ensures { Gives (λ x. (x.0, seen source.now.bytes.now x.1.now)) result (spec.publics source.now.dialect source.now.end depth first (seen source.now.bytes.now tokens.now)) }
+    ensures { Parses source.now tokens.now result (spec.publics source.now.dialect source.now.end depth first) }
 {
     let mut all = first;
     let mut rest = tokens;
@@ -242,7 +243,7 @@ fn name_after<'t>(
     tokens: &'t [Token],
     word: Word,
 ) -> Result<(Identifier, &'t [Token]), ParseError>
-    ensures { Gives (λ x. (x.0, seen source.now.bytes.now x.1.now)) result (spec.name_after word (seen source.now.bytes.now tokens.now)) }
+    ensures { Parses source.now tokens.now result (spec.name_after word) }
 {
     let rest = expect_word(source, tokens, word)?;
     let (name, rest) = identifier(source, rest)?;
@@ -257,7 +258,7 @@ fn interface<'t>(
     tokens: &'t [Token],
     depth: u32,
 ) -> Result<((Option<Uses>, Publics), &'t [Token]), ParseError>
-    ensures { Gives (λ x. (x.0, seen source.now.bytes.now x.1.now)) result (spec.interface source.now.dialect source.now.end depth (seen source.now.bytes.now tokens.now)) }
+    ensures { Parses source.now tokens.now result (spec.interface source.now.dialect source.now.end depth) }
 {
     let rest = expect_word(source, tokens, Word::KwInterface)?;
     let (uses, rest) = optional_uses(source, rest)?;
@@ -272,7 +273,7 @@ fn exports<'t>(
     tokens: &'t [Token],
     depth: u32,
 ) -> Result<((Option<Uses>, Publics), &'t [Token]), ParseError>
-    ensures { Gives (λ x. (x.0, seen source.now.bytes.now x.1.now)) result (spec.exports source.now.dialect source.now.end depth (seen source.now.bytes.now tokens.now)) }
+    ensures { Parses source.now tokens.now result (spec.exports source.now.dialect source.now.end depth) }
 {
     let (uses, rest) = optional_uses(source, tokens)?;
     let rest = expect_word(source, rest, Word::KwExport)?;
@@ -288,7 +289,7 @@ fn implementation<'t>(
     depth: u32,
     word: Word,
 ) -> Result<((Option<Uses>, Declarations), &'t [Token]), ParseError>
-    ensures { Gives (λ x. (x.0, seen source.now.bytes.now x.1.now)) result (spec.implementation word source.now.dialect source.now.end depth (seen source.now.bytes.now tokens.now)) }
+    ensures { Parses source.now tokens.now result (spec.implementation word source.now.dialect source.now.end depth) }
 {
     let rest = expect_word(source, tokens, word)?;
     let (uses, rest) = optional_uses(source, rest)?;
@@ -303,7 +304,7 @@ fn optional_initial<'t>(
     tokens: &'t [Token],
     depth: u32,
 ) -> Result<(Option<Stmts>, &'t [Token]), ParseError>
-    ensures { Gives (λ x. (x.0, seen source.now.bytes.now x.1.now)) result (spec.optional_initial source.now.dialect source.now.end depth (seen source.now.bytes.now tokens.now)) }
+    ensures { Parses source.now tokens.now result (spec.optional_initial source.now.dialect source.now.end depth) }
 {
     if is_word(source, tokens, Word::KwBegin) {
         let rest = expect_word(source, tokens, Word::KwBegin)?;
@@ -328,7 +329,7 @@ fn unit<'t>(
     tokens: &'t [Token],
     depth: u32,
 ) -> Result<(UnitNode, &'t [Token]), ParseError>
-    ensures { Gives (λ x. (x.0, seen source.now.bytes.now x.1.now)) result (spec.unit source.now.dialect source.now.end depth (seen source.now.bytes.now tokens.now)) }
+    ensures { Parses source.now tokens.now result (spec.unit source.now.dialect source.now.end depth) }
 {
     let (name, rest) = name_after(source, tokens, Word::KwUnit)?;
     let ((interface_uses, publics), rest) = interface(source, rest, depth)?;
@@ -359,7 +360,7 @@ fn module<'t>(
     tokens: &'t [Token],
     depth: u32,
 ) -> Result<(Module, &'t [Token]), ParseError>
-    ensures { Gives (λ x. (x.0, seen source.now.bytes.now x.1.now)) result (spec.module_text source.now.dialect source.now.end depth (seen source.now.bytes.now tokens.now)) }
+    ensures { Parses source.now tokens.now result (spec.module_text source.now.dialect source.now.end depth) }
 {
     let (name, rest) = name_after(source, tokens, Word::KwModule)?;
     let ((interface_uses, publics), rest) = exports(source, rest, depth)?;
@@ -388,7 +389,7 @@ fn source_file<'t>(
     tokens: &'t [Token],
     depth: u32,
 ) -> Result<(SourceFile, &'t [Token]), ParseError>
-    ensures { Gives (λ x. (x.0, seen source.now.bytes.now x.1.now)) result (spec.source_file source.now.dialect source.now.end depth (seen source.now.bytes.now tokens.now)) }
+    ensures { Parses source.now tokens.now result (spec.source_file source.now.dialect source.now.end depth) }
 {
     if is_word(source, tokens, Word::KwUnit) {
         let (unit, rest) = unit(source, tokens, depth)?;

@@ -1,7 +1,6 @@
 //! Parts of declarations, and headings. `depth` is how many levels of what stands in them may still nest.
 ghost use Rattle.std.specs.Prelude.{◌≡◌};
-ghost use Rattle.token_parsing.specs.Parser.{Gives};
-ghost use Rattle.expr_parser.specs.Tokens.{seen};
+ghost use Rattle.expr_parser.specs.Parsing.{Parses};
 ghost use Rattle.expr_parser.specs.Expressions as expressions;
 ghost use Rattle.type_parser.specs.Levels as types;
 ghost use Rattle.unit_parser.specs.Parts as spec;
@@ -29,7 +28,7 @@ fn next_label<'t>(
     tokens: &'t [Token],
     all: Labels,
 ) -> Result<(Labels, &'t [Token]), ParseError>
-    ensures { Gives (λ x. (x.0, seen source.now.bytes.now x.1.now)) result (spec.next_label source.now.dialect source.now.end all (seen source.now.bytes.now tokens.now)) }
+    ensures { Parses source.now tokens.now result (spec.next_label source.now.dialect source.now.end all) }
 {
     let mut all = all;
     let rest = expect(source, tokens, Symbol::Comma)?;
@@ -44,7 +43,7 @@ fn more_labels<'t>(
     tokens: &'t [Token],
     first: Labels,
 ) -> Result<(Labels, &'t [Token]), ParseError>
-    ensures { Gives (λ x. (x.0, seen source.now.bytes.now x.1.now)) result (spec.more_labels source.now.dialect source.now.end first (seen source.now.bytes.now tokens.now)) }
+    ensures { Parses source.now tokens.now result (spec.more_labels source.now.dialect source.now.end first) }
 {
     let mut all = first;
     let mut rest = tokens;
@@ -62,7 +61,7 @@ fn more_labels<'t>(
 /// Labels with commas between them.
 #[tactic(auto, unfolding(crate::specs::Parts::labels))]
 fn labels<'t>(source: &Source<'_>, tokens: &'t [Token]) -> Result<(Labels, &'t [Token]), ParseError>
-    ensures { Gives (λ x. (x.0, seen source.now.bytes.now x.1.now)) result (spec.labels source.now.dialect source.now.end (seen source.now.bytes.now tokens.now)) }
+    ensures { Parses source.now tokens.now result (spec.labels source.now.dialect source.now.end) }
 {
     let (item, rest) = label(source, tokens)?;
     let mut first = Items::new(source.alloc);
@@ -75,7 +74,7 @@ pub fn label_part<'t>(
     source: &Source<'_>,
     tokens: &'t [Token],
 ) -> Result<(LabelPart, &'t [Token]), ParseError>
-    ensures { Gives (λ x. (x.0, seen source.now.bytes.now x.1.now)) result (spec.label_part source.now.dialect source.now.end (seen source.now.bytes.now tokens.now)) }
+    ensures { Parses source.now tokens.now result (spec.label_part source.now.dialect source.now.end) }
 {
     let rest = expect_word(source, tokens, Word::KwLabel)?;
     let (labels, rest) = labels(source, rest)?;
@@ -89,7 +88,7 @@ fn constant_value<'t>(
     source: &Source<'_>,
     tokens: &'t [Token],
 ) -> Result<(Value, &'t [Token]), ParseError>
-    ensures { Gives (λ x. (x.0, seen source.now.bytes.now x.1.now)) result (spec.constant_value source.now.end (seen source.now.bytes.now tokens.now)) }
+    ensures { Parses source.now tokens.now result (spec.constant_value source.now.end) }
 {
     let (constant, rest) = constant(source, tokens)?;
     Ok((Value::Constant(constant), rest))
@@ -101,7 +100,7 @@ fn expression_value<'t>(
     tokens: &'t [Token],
     depth: u32,
 ) -> Result<(Value, &'t [Token]), ParseError>
-    ensures { Gives (λ x. (x.0, seen source.now.bytes.now x.1.now)) result (spec.expression_value (expressions.expr source.now.dialect source.now.end depth) (seen source.now.bytes.now tokens.now)) }
+    ensures { Parses source.now tokens.now result (spec.expression_value (expressions.expr source.now.dialect source.now.end depth)) }
 {
     let (expr, rest) = expr(source, tokens, depth)?;
     Ok((Value::Expression(expr), rest))
@@ -114,7 +113,7 @@ fn value<'t>(
     tokens: &'t [Token],
     depth: u32,
 ) -> Result<(Value, &'t [Token]), ParseError>
-    ensures { Gives (λ x. (x.0, seen source.now.bytes.now x.1.now)) result (spec.value source.now.dialect source.now.end (expressions.expr source.now.dialect source.now.end depth) (seen source.now.bytes.now tokens.now)) }
+    ensures { Parses source.now tokens.now result (spec.value source.now.dialect source.now.end (expressions.expr source.now.dialect source.now.end depth)) }
 {
     if has_value_expressions(source.dialect) {
         return expression_value(source, tokens, depth);
@@ -128,7 +127,7 @@ fn const_definition<'t>(
     tokens: &'t [Token],
     depth: u32,
 ) -> Result<(ConstDefinition, &'t [Token]), ParseError>
-    ensures { Gives (λ x. (x.0, seen source.now.bytes.now x.1.now)) result (spec.const_definition source.now.dialect source.now.end (expressions.expr source.now.dialect source.now.end depth) (seen source.now.bytes.now tokens.now)) }
+    ensures { Parses source.now tokens.now result (spec.const_definition source.now.dialect source.now.end (expressions.expr source.now.dialect source.now.end depth)) }
 {
     let (name, rest) = identifier(source, tokens)?;
     let rest = expect(source, rest, Symbol::Equal)?;
@@ -146,7 +145,7 @@ fn next_const_definition<'t>(
     depth: u32,
     all: ConstDefinitions,
 ) -> Result<(ConstDefinitions, &'t [Token]), ParseError>
-    ensures { Gives (λ x. (x.0, seen source.now.bytes.now x.1.now)) result (spec.next_const_definition source.now.dialect source.now.end (expressions.expr source.now.dialect source.now.end depth) all (seen source.now.bytes.now tokens.now)) }
+    ensures { Parses source.now tokens.now result (spec.next_const_definition source.now.dialect source.now.end (expressions.expr source.now.dialect source.now.end depth) all) }
 {
     let mut all = all;
     let (item, rest) = const_definition(source, tokens, depth)?;
@@ -161,7 +160,7 @@ fn const_definitions<'t>(
     depth: u32,
     first: ConstDefinitions,
 ) -> Result<(ConstDefinitions, &'t [Token]), ParseError>
-    ensures { Gives (λ x. (x.0, seen source.now.bytes.now x.1.now)) result (spec.const_definitions source.now.dialect source.now.end (expressions.expr source.now.dialect source.now.end depth) first (seen source.now.bytes.now tokens.now)) }
+    ensures { Parses source.now tokens.now result (spec.const_definitions source.now.dialect source.now.end (expressions.expr source.now.dialect source.now.end depth) first) }
 {
     let mut all = first;
     let mut rest = tokens;
@@ -182,7 +181,7 @@ pub fn const_part<'t>(
     tokens: &'t [Token],
     depth: u32,
 ) -> Result<(ConstPart, &'t [Token]), ParseError>
-    ensures { Gives (λ x. (x.0, seen source.now.bytes.now x.1.now)) result (spec.const_part source.now.dialect source.now.end (expressions.expr source.now.dialect source.now.end depth) (seen source.now.bytes.now tokens.now)) }
+    ensures { Parses source.now tokens.now result (spec.const_part source.now.dialect source.now.end (expressions.expr source.now.dialect source.now.end depth)) }
 {
     let rest = expect_word(source, tokens, Word::KwConst)?;
     let (first, rest) = next_const_definition(source, rest, depth, Items::new(source.alloc))?;
@@ -197,7 +196,7 @@ fn type_definition<'t>(
     tokens: &'t [Token],
     depth: u32,
 ) -> Result<(TypeDefinition, &'t [Token]), ParseError>
-    ensures { Gives (λ x. (x.0, seen source.now.bytes.now x.1.now)) result (spec.type_definition source.now.end (types.type_node source.now.dialect source.now.end depth) (seen source.now.bytes.now tokens.now)) }
+    ensures { Parses source.now tokens.now result (spec.type_definition source.now.end (types.type_node source.now.dialect source.now.end depth)) }
 {
     let (name, rest) = identifier(source, tokens)?;
     let rest = expect(source, rest, Symbol::Equal)?;
@@ -215,7 +214,7 @@ fn next_type_definition<'t>(
     depth: u32,
     all: TypeDefinitions,
 ) -> Result<(TypeDefinitions, &'t [Token]), ParseError>
-    ensures { Gives (λ x. (x.0, seen source.now.bytes.now x.1.now)) result (spec.next_type_definition source.now.end (types.type_node source.now.dialect source.now.end depth) all (seen source.now.bytes.now tokens.now)) }
+    ensures { Parses source.now tokens.now result (spec.next_type_definition source.now.end (types.type_node source.now.dialect source.now.end depth) all) }
 {
     let mut all = all;
     let (item, rest) = type_definition(source, tokens, depth)?;
@@ -230,7 +229,7 @@ fn type_definitions<'t>(
     depth: u32,
     first: TypeDefinitions,
 ) -> Result<(TypeDefinitions, &'t [Token]), ParseError>
-    ensures { Gives (λ x. (x.0, seen source.now.bytes.now x.1.now)) result (spec.type_definitions source.now.end (types.type_node source.now.dialect source.now.end depth) first (seen source.now.bytes.now tokens.now)) }
+    ensures { Parses source.now tokens.now result (spec.type_definitions source.now.end (types.type_node source.now.dialect source.now.end depth) first) }
 {
     let mut all = first;
     let mut rest = tokens;
@@ -251,7 +250,7 @@ pub fn type_part<'t>(
     tokens: &'t [Token],
     depth: u32,
 ) -> Result<(TypePart, &'t [Token]), ParseError>
-    ensures { Gives (λ x. (x.0, seen source.now.bytes.now x.1.now)) result (spec.type_part source.now.end (types.type_node source.now.dialect source.now.end depth) (seen source.now.bytes.now tokens.now)) }
+    ensures { Parses source.now tokens.now result (spec.type_part source.now.end (types.type_node source.now.dialect source.now.end depth)) }
 {
     let rest = expect_word(source, tokens, Word::KwType)?;
     let (first, rest) = next_type_definition(source, rest, depth, Items::new(source.alloc))?;
@@ -267,7 +266,7 @@ fn var_section<'t>(
     tokens: &'t [Token],
     depth: u32,
 ) -> Result<(VarSection, &'t [Token]), ParseError>
-    ensures { Gives (λ x. (x.0, seen source.now.bytes.now x.1.now)) result (spec.var_section source.now.end (types.type_node source.now.dialect source.now.end depth) (seen source.now.bytes.now tokens.now)) }
+    ensures { Parses source.now tokens.now result (spec.var_section source.now.end (types.type_node source.now.dialect source.now.end depth)) }
 {
     let (names, rest) = names(source, tokens)?;
     let rest = expect(source, rest, Symbol::Colon)?;
@@ -285,7 +284,7 @@ fn next_var_section<'t>(
     depth: u32,
     all: VarSections,
 ) -> Result<(VarSections, &'t [Token]), ParseError>
-    ensures { Gives (λ x. (x.0, seen source.now.bytes.now x.1.now)) result (spec.next_var_section source.now.end (types.type_node source.now.dialect source.now.end depth) all (seen source.now.bytes.now tokens.now)) }
+    ensures { Parses source.now tokens.now result (spec.next_var_section source.now.end (types.type_node source.now.dialect source.now.end depth) all) }
 {
     let mut all = all;
     let (item, rest) = var_section(source, tokens, depth)?;
@@ -300,7 +299,7 @@ fn var_sections<'t>(
     depth: u32,
     first: VarSections,
 ) -> Result<(VarSections, &'t [Token]), ParseError>
-    ensures { Gives (λ x. (x.0, seen source.now.bytes.now x.1.now)) result (spec.var_sections source.now.end (types.type_node source.now.dialect source.now.end depth) first (seen source.now.bytes.now tokens.now)) }
+    ensures { Parses source.now tokens.now result (spec.var_sections source.now.end (types.type_node source.now.dialect source.now.end depth) first) }
 {
     let mut all = first;
     let mut rest = tokens;
@@ -321,7 +320,7 @@ pub fn var_part<'t>(
     tokens: &'t [Token],
     depth: u32,
 ) -> Result<(VarPart, &'t [Token]), ParseError>
-    ensures { Gives (λ x. (x.0, seen source.now.bytes.now x.1.now)) result (spec.var_part source.now.end (types.type_node source.now.dialect source.now.end depth) (seen source.now.bytes.now tokens.now)) }
+    ensures { Parses source.now tokens.now result (spec.var_part source.now.end (types.type_node source.now.dialect source.now.end depth)) }
 {
     let rest = expect_word(source, tokens, Word::KwVar)?;
     let (first, rest) = next_var_section(source, rest, depth, Items::new(source.alloc))?;
@@ -336,7 +335,7 @@ fn procedure_heading<'t>(
     tokens: &'t [Token],
     depth: u32,
 ) -> Result<(Heading, &'t [Token]), ParseError>
-    ensures { Gives (λ x. (x.0, seen source.now.bytes.now x.1.now)) result (spec.procedure_heading source.now.end (types.formals source.now.end depth) (seen source.now.bytes.now tokens.now)) }
+    ensures { Parses source.now tokens.now result (spec.procedure_heading source.now.end (types.formals source.now.end depth)) }
 {
     let rest = expect_word(source, tokens, Word::KwProcedure)?;
     let (name, rest) = identifier(source, rest)?;
@@ -356,7 +355,7 @@ fn optional_result<'t>(
     source: &Source<'_>,
     tokens: &'t [Token],
 ) -> Result<(Option<TypeName>, &'t [Token]), ParseError>
-    ensures { Gives (λ x. (x.0, seen source.now.bytes.now x.1.now)) result (spec.optional_result source.now.end (seen source.now.bytes.now tokens.now)) }
+    ensures { Parses source.now tokens.now result (spec.optional_result source.now.end) }
 {
     if is(source, tokens, Symbol::Colon) {
         let (result, rest) = result_name(source, tokens)?;
@@ -371,7 +370,7 @@ fn function_heading<'t>(
     tokens: &'t [Token],
     depth: u32,
 ) -> Result<(Heading, &'t [Token]), ParseError>
-    ensures { Gives (λ x. (x.0, seen source.now.bytes.now x.1.now)) result (spec.function_heading source.now.end (types.formals source.now.end depth) (seen source.now.bytes.now tokens.now)) }
+    ensures { Parses source.now tokens.now result (spec.function_heading source.now.end (types.formals source.now.end depth)) }
 {
     let rest = expect_word(source, tokens, Word::KwFunction)?;
     let (name, rest) = identifier(source, rest)?;
@@ -393,7 +392,7 @@ pub fn heading<'t>(
     tokens: &'t [Token],
     depth: u32,
 ) -> Result<(Heading, &'t [Token]), ParseError>
-    ensures { Gives (λ x. (x.0, seen source.now.bytes.now x.1.now)) result (spec.heading source.now.end (types.formals source.now.end depth) (seen source.now.bytes.now tokens.now)) }
+    ensures { Parses source.now tokens.now result (spec.heading source.now.end (types.formals source.now.end depth)) }
 {
     if is_word(source, tokens, Word::KwFunction) {
         return function_heading(source, tokens, depth);

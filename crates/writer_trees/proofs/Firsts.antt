@@ -5,7 +5,7 @@ use Rattle.std.specs.List.{AllByRecursion, AllZip}
 use Rattle.p2c_text.specs.declared.dialect.Dialect.{Dialect}
 use Rattle.p2c_text.specs.declared.place.Span.{Span}
 use Rattle.pascal_tree.specs.declared.names.Identifier.{Identifier}
-use Rattle.pascal_tree.specs.declared.statements.Stmt.{Stmt, out-Stmt}
+use Rattle.pascal_tree.specs.declared.statements.Stmt.{Stmt}
 use Rattle.pascal_tree.specs.declared.declarations.Declaration.{Declaration, out-Declaration}
 use Rattle.pascal_tree.specs.declared.declarations.Block.{out-Block}
 use Rattle.pascal_tree.specs.declared.files.Uses.{Uses}

@@ -6,29 +6,29 @@ use Rattle.pascal_tree.specs.declared.declarations.ConstPart.{ConstPart}
 use Rattle.pascal_tree.specs.declared.declarations.TypePart.{TypePart}
 use Rattle.pascal_tree.specs.declared.declarations.VarPart.{VarPart}
 use Rattle.pascal_tree.specs.declared.declarations.Declaration.TheOpen as part
-use Rattle.pascal_tree.specs.declared.declarations.Declaration.{Declaration, out-Declaration, roll-Declaration, out-roll-Declaration}
+use Rattle.pascal_tree.specs.declared.declarations.Declaration.{Declaration, out-Declaration, out-roll-Declaration}
 use Rattle.pascal_tree.specs.declared.declarations.Declaration.TheVariants as declaration
 use Rattle.pascal_tree.specs.declared.declarations.Routine.{Routine, out-Routine}
 use Rattle.p2c_text.specs.declared.dialect.Dialect.{Dialect}
 use Rattle.pascal_tree.specs.declared.names.Identifier.{Identifier}
 use Rattle.pascal_tree.specs.declared.names.Label.{Label}
 use Rattle.pascal_tree.specs.declared.expressions.Arg.TheOpen as inner
-use Rattle.pascal_tree.specs.declared.expressions.Arg.{Arg, roll-Arg, out-Arg, out-roll-Arg}
+use Rattle.pascal_tree.specs.declared.expressions.Arg.{out-roll-Arg}
 use Rattle.pascal_tree.specs.declared.expressions.Arg.TheVariants as arg
 use Rattle.pascal_tree.specs.declared.expressions.Args.{Args}
 use Rattle.pascal_tree.specs.declared.expressions.Elem.{Elem}
 use Rattle.pascal_tree.specs.declared.expressions.Expr.{Expr}
-use Rattle.pascal_tree.specs.declared.expressions.Factor.{Factor, roll-Factor, out-Factor, out-roll-Factor}
+use Rattle.pascal_tree.specs.declared.expressions.Factor.{Factor, out-roll-Factor}
 use Rattle.pascal_tree.specs.declared.expressions.Factor.TheVariants as factor
 use Rattle.pascal_tree.specs.declared.expressions.Place.{Place}
 use Rattle.pascal_tree.specs.declared.statements.Arm.{Arm}
 use Rattle.pascal_tree.specs.declared.statements.Direction.{Direction}
 use Rattle.pascal_tree.specs.declared.statements.Plain.TheOpen as plain_part
-use Rattle.pascal_tree.specs.declared.statements.Plain.{Plain, roll-Plain, out-Plain, out-roll-Plain}
+use Rattle.pascal_tree.specs.declared.statements.Plain.{out-roll-Plain}
 use Rattle.pascal_tree.specs.declared.statements.Plain.TheVariants as plain
 use Rattle.pascal_tree.specs.declared.statements.Rest.{Rest}
 use Rattle.pascal_tree.specs.declared.statements.Stmt.{Stmt}
-use Rattle.agreement.specs.Writers.{Writing, Nothing}
+use Rattle.agreement.specs.Writers.{Nothing}
 use Rattle.writer_trees.specs.Files.{text_factor, factor_text, text_arg, arg_text, open_writing, plain_writing, call_writing, without, expr_text}
 use Rattle.writer_trees.specs.Unbuilt.{span_in}
 
