@@ -6,7 +6,7 @@ use c_meaning::StuckKind;
 use std::alloc::AllocError;
 
 /// The program is stuck, or there is no memory.
-#[derive(Clone, Copy, Debug, PartialEq, Eq)]
+#[derive(Clone, Copy)]
 pub enum Halt {
     Stuck(StuckKind),
     Memory,

@@ -41,7 +41,7 @@ impl Model for Block {
 }
 
 /// Where the own blocks of a function lie, one after the other.
-#[derive(Debug, Drop, Clone, Copy)]
+#[derive(Drop, Clone, Copy)]
 struct Frame {
     first: usize,
     /// How far their numbers are ahead of their places.

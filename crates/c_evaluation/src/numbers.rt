@@ -27,14 +27,14 @@ use c_tree::operators::CBinary;
 use std::alloc::{AllocError, Global};
 
 /// A variable: its place among the parameters and locals of its function, or the number of a global.
-#[derive(Clone, Copy, Debug)]
+#[derive(Clone, Copy)]
 pub enum Variable {
     Own(usize),
     Global(usize),
 }
 
 /// A variable, or a number in the text.
-#[derive(Clone, Copy, Debug)]
+#[derive(Clone, Copy)]
 pub enum Operand {
     Variable(Variable),
     Written(i64),

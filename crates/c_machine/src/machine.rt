@@ -22,7 +22,7 @@ use p2c_outside::{Sink, Source};
 use std::alloc::{AllocError, Global};
 
 /// What a step gives.
-#[derive(Clone, Copy, Debug, PartialEq, Eq)]
+#[derive(Clone, Copy)]
 pub enum Stepped {
     Going,
     /// `main` ended with a status.
@@ -36,7 +36,7 @@ pub enum Stepped {
 }
 
 /// How a run ends.
-#[derive(Clone, Copy, Debug, PartialEq, Eq)]
+#[derive(Clone, Copy, Debug)]
 pub enum Ended {
     /// `main` ended. `calls` counts the calls of functions that have a number at their names' ends.
     Status { status: u8, calls: u64 },

@@ -5,7 +5,7 @@ ghost use Rattle.c_meaning.specs.Entries.{number_at_end};
 ghost use Rattle.c_stepper.specs.Marks.{next_mark, has_number};
 
 /// What stands after the last `_` so far: something else or no `_`, nothing yet, or digits.
-#[derive(Clone, Copy, Debug, PartialEq, Eq)]
+#[derive(Clone, Copy)]
 enum Mark {
     Outside,
     Begun,

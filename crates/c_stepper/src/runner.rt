@@ -29,7 +29,7 @@ use c_tree::types::CType;
 use std::alloc::Global;
 
 /// What a statement did beside the change of the frames and the memory.
-#[derive(Clone, Copy, Debug, PartialEq, Eq)]
+#[derive(Clone, Copy)]
 pub enum Done {
     Going,
     /// It wrote a byte.

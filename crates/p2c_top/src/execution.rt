@@ -8,8 +8,8 @@ ghost use Rattle.p2c_top.specs.Executed.{InputFails, MayPutBefore, MayTake, Puts
 
 use crate::outcome::Outcome;
 use crate::reading::{read_whole, refused};
-use c_reader::CTextFault;
 use c_machine::Ended;
+use c_reader::CTextFault;
 use p2c_outside::{Files, Sink, Source};
 use run_core::{LONGEST_INPUT, run_text};
 use std::alloc::Global;
