@@ -12,7 +12,7 @@ use Rattle.held_bytes.proofs.ToldLemmas.{Gains-refl, Gains-append, GainsPart-sec
 use Rattle.held_bytes.specs.Held.{bytes_in, IsDry, first_of, rest_of}
 use Rattle.c_stepper.specs.Runners.{state_of, AsksForByte, Seeks, Acts}
 use Rattle.held_bytes.specs.declared.output.HeldOutput.{HeldOutput}
-use Rattle.c_machine.specs.Machines.{stood, Dashes, Goes, Steps, AreFew, PutsFirst, Takes}
+use Rattle.c_machine.specs.Machines.{stood, Dashes, Goes, Steps, AreFew, Takes}
 use Rattle.c_stepper.proofs.Counting.{none_more, step_once}
 use Rattle.c_stepper.specs.declared.runner.Runner.{Runner}
 use Rattle.c_machine.specs.declared.machine.Machine.{Machine}
