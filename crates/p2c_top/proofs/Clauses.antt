@@ -177,11 +177,11 @@ run_read_fault R S K P a (inr y) = inr (a, y.0)
 
 -- what the run of a task tells of its input
 abbrev OfInput : (failed taken kept same : Type 0) → Option Named → (input input' old new : Option (List ℕ)) → Outcome → Option Task → Type 0
-OfInput failed taken kept same told input input' old new o (Some (Running steps name)) = (o ≡ ReadFault → ReadFails failed taken kept told name steps input input' old new) × MayTake same told name steps input input' × MayPutBefore same told name steps input input' old new
+OfInput failed taken kept same told input input' old new o (Some (Running steps name)) = (o ≡ ReadFault → ReadFails failed taken kept told name steps input input' old new) × MayTake same told name steps input input' (status_of o) × MayPutBefore same told name steps input input' old new
 OfInput failed taken kept same told input input' old new o _ = ⊤
 
 pub run_input : {failed taken kept same : Type 0} (told : Option Named) (steps : ℕ) (name : List ℕ) (input input' old new : Option (List ℕ)) (o : Outcome)
-    → (o ≡ ReadFault → ReadFails failed taken kept told name steps input input' old new) → MayTake same told name steps input input' → MayPutBefore same told name steps input input' old new → RunInput (Some (Running steps name)) failed taken kept same told input input' old new o
+    → (o ≡ ReadFault → ReadFails failed taken kept told name steps input input' old new) → MayTake same told name steps input input' (status_of o) → MayPutBefore same told name steps input input' old new → RunInput (Some (Running steps name)) failed taken kept same told input input' old new o
 run_input {failed = failed} {taken = taken} {kept = kept} {same = same} told steps name input input' old new o fails takes puts = record {
   fault = λ n other is. (subst (λ t. OfInput failed taken kept same told input input' old new o t) is (fails, takes, puts)).0;
   few = λ n other is. (subst (λ t. OfInput failed taken kept same told input input' old new o t) is (fails, takes, puts)).1;

@@ -13,6 +13,7 @@ use Rattle.p2c_outside.specs.Told.{Named, WhereTold, Gains}
 use Rattle.run_core.specs.Answers.{IsRun}
 use Rattle.p2c_top.specs.Answers.{RunAnswer, IsEarly, IsMissing}
 use Rattle.p2c_top.specs.Executed.{Executes, ExecutesPart, InputFails, CutsOff, OfFile, PutsBefore, ReadFails, TakesOnly, ended_as, outcome_of_run}
+use Rattle.p2c_top.specs.Messages.{status_of}
 use Rattle.p2c_top.specs.Reading.{Lacks, outcome_of}
 use Rattle.p2c_top.specs.declared.reading.ReadRefusal.{ReadRefusal}
 use Rattle.p2c_top.specs.declared.reading.ReadRefusal.TheVariants as reading
@@ -93,10 +94,10 @@ input_failed bytes steps input left' old new (Err (fault.At kind line)) run is =
 input_failed bytes steps input left' old new (Err (fault.Memory error)) run is = absurd cc
 
 -- where the text is run, few bytes are taken ahead
-pub taken_only : {kept : Type 0} (bytes : List ℕ) (steps : ℕ) (input left' old new : Option (List ℕ)) (a : Result e.Ended CTextFault) → IfOk a (IsRun bytes steps input left' old new) → IfErr a (λ f. kept)
-    → kept ⊎ TakesOnly bytes steps input left'
-taken_only bytes steps input left' old new (Ok ended) run kept = inr (record { program = run.program; text = run.text; answer = ended; few = run.ahead })
-taken_only bytes steps input left' old new (Err f) run kept = inl kept
+pub taken_only : {kept : Type 0} (bytes : List ℕ) (steps : ℕ) (input left' old new : Option (List ℕ)) (o : Outcome) (a : Result e.Ended CTextFault) → o ≡ outcome_of_run a
+    → IfOk a (IsRun bytes steps input left' old new) → IfErr a (λ f. kept) → kept ⊎ TakesOnly bytes steps input left' (status_of o)
+taken_only bytes steps input left' old new o (Ok ended) is run kept = inr (record { program = run.program; text = run.text; answer = ended; is = ap status_of is; few = run.ahead })
+taken_only bytes steps input left' old new o (Err f) is run kept = inl kept
 
 -- and what is written is put before more is taken
 pub puts_before : {kept : Type 0} (bytes : List ℕ) (steps : ℕ) (input left' old new : Option (List ℕ)) (a : Result e.Ended CTextFault) → IfOk a (IsRun bytes steps input left' old new) → IfErr a (λ f. kept)

@@ -78,7 +78,7 @@ pub record Counts (task : Option Task) (lacked lacked' failed failed' taken take
 -- what a run tells of its input: what failed where it could not read, how much was taken, and what was put before
 pub record RunInput (task : Option Task) (failed taken kept same : Type 0) (told : Option Named) (input input' old new : Option (List ℕ)) (outcome : Outcome) : Type 0 where
   pub fault : (steps : ℕ) (name : List ℕ) → task ≡ Some (Running steps name) → outcome ≡ ReadFault → ReadFails failed taken kept told name steps input input' old new
-  pub few : (steps : ℕ) (name : List ℕ) → task ≡ Some (Running steps name) → MayTake same told name steps input input'
+  pub few : (steps : ℕ) (name : List ℕ) → task ≡ Some (Running steps name) → MayTake same told name steps input input' (status_of outcome)
   pub put : (steps : ℕ) (name : List ℕ) → task ≡ Some (Running steps name) → MayPutBefore same told name steps input input' old new
 
 -- the answers that come before anything is done

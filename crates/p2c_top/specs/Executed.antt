@@ -40,11 +40,27 @@ pub record InputFails (source : List ℕ) (steps : ℕ) (input input' old new : 
   pub text : CText source program
   pub ran : (left : List ℕ) → input ≡ Some left → Ran program left input' steps old new ended.InputFault
 
--- the source is a text, and where the input is told few bytes were taken of it that no `getchar` of its program asked for
-pub record TakesOnly (source : List ℕ) (steps : ℕ) (input input' : Option (List ℕ)) : Type 0 where
+-- ---- the answer to what the runner says
+
+abbrev pub outcome_of_run : Result e.Ended CTextFault → Outcome
+outcome_of_run (Ok (ended.Status status calls)) = Ended status
+outcome_of_run (Ok ended.Spent) = Spent
+outcome_of_run (Ok (ended.Stuck kind)) = Stuck kind
+outcome_of_run (Ok ended.InputFault) = ReadFault
+outcome_of_run (Ok ended.OutputFault) = WriteFault
+outcome_of_run (Ok (ended.Memory error)) = OutOfMemory
+outcome_of_run (Err (fault.At kind line)) = BadText kind line
+outcome_of_run (Err (fault.Memory error)) = OutOfMemory
+
+-- ---- what is taken and put
+
+-- the source is a text, and where the input is told few bytes were taken of it that no `getchar` of its
+-- program asked for, up to where its run stopped with the answer of this status
+pub record TakesOnly (source : List ℕ) (steps : ℕ) (input input' : Option (List ℕ)) (status : ℕ) : Type 0 where
   pub program : CProgram
   pub text : CText source program
   pub answer : e.Ended
+  pub is : status ≡ status_of (outcome_of_run (Ok answer))
   pub few : (left : List ℕ) → input ≡ Some left → TakesFew program left input' steps answer
 
 -- the source is a text, and where the input is told all that its program writes was put before more input was taken
@@ -72,8 +88,8 @@ abbrev pub ReadFails : (failed taken kept : Type 0) → Option Named → (name :
 ReadFails failed taken kept told name steps input input' old new = (failed × kept) ⊎ (taken × OfFile told name (λ source. InputFails source steps input input' old new))
 
 -- nothing was taken of the input, or few bytes that the program of the file did not ask for
-abbrev pub MayTake : (kept : Type 0) → Option Named → (name : List ℕ) → (steps : ℕ) → (input input' : Option (List ℕ)) → Type 0
-MayTake kept told name steps input input' = kept ⊎ OfFile told name (λ source. TakesOnly source steps input input')
+abbrev pub MayTake : (kept : Type 0) → Option Named → (name : List ℕ) → (steps : ℕ) → (input input' : Option (List ℕ)) → (status : ℕ) → Type 0
+MayTake kept told name steps input input' status = kept ⊎ OfFile told name (λ source. TakesOnly source steps input input' status)
 
 -- nothing was taken of the input, or what the program of the file had written by then was put before
 abbrev pub MayPutBefore : (kept : Type 0) → Option Named → (name : List ℕ) → (steps : ℕ) → (input input' old new : Option (List ℕ)) → Type 0
@@ -98,15 +114,3 @@ NotRun told name = WhereTold told name (λ bytes. (67108864 < length bytes) ⊎ 
 abbrev pub AsksForText : Option Named → (words : List (List ℕ)) → Type 0
 AsksForText None words = ⊥
 AsksForText (Some files) words = (steps : ℕ) × (name source : List ℕ) × (c : CProgram) × (task_asked words ≡ Some (Running steps name)) × (files name ≡ Some source) × (length source ≤ 67108864) × CText source c
-
--- ---- the answer to what the runner says
-
-abbrev pub outcome_of_run : Result e.Ended CTextFault → Outcome
-outcome_of_run (Ok (ended.Status status calls)) = Ended status
-outcome_of_run (Ok ended.Spent) = Spent
-outcome_of_run (Ok (ended.Stuck kind)) = Stuck kind
-outcome_of_run (Ok ended.InputFault) = ReadFault
-outcome_of_run (Ok ended.OutputFault) = WriteFault
-outcome_of_run (Ok (ended.Memory error)) = OutOfMemory
-outcome_of_run (Err (fault.At kind line)) = BadText kind line
-outcome_of_run (Err (fault.Memory error)) = OutOfMemory

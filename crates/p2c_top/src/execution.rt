@@ -4,6 +4,7 @@ ghost use Rattle.std.specs.Prelude.{◌≡◌, ◌≢◌, ◌≤◌, ◌⊎◌, 
 ghost use Rattle.p2c_outside.specs.Counts.{Rose};
 ghost use Rattle.p2c_outside.specs.Told.{Named, WhereTold};
 ghost use Rattle.p2c_top.specs.Answers.{IsEarly, IsMissing, RunAnswer};
+ghost use Rattle.p2c_top.specs.Messages.{status_of};
 ghost use Rattle.p2c_top.specs.Executed.{InputFails, MayPutBefore, MayTake, PutsBefore, ReadFails, TakesOnly, outcome_of_run};
 
 use crate::outcome::Outcome;
@@ -29,7 +30,7 @@ pub fn execute<F: Files, I: Source, O: Sink>(
         ReadFails (Rose (F.faults files.old) (F.faults files.new)) (Rose (I.faults input.old) (I.faults input.new))
         ((input.new ≡ input.old) × (out.new ≡ out.old))
         (F.told files.old) name.now steps (I.left input.old) (I.left input.new) (O.written out.old) (O.written out.new) }
-    ensures ahead { MayTake (input.new ≡ input.old) (F.told files.old) name.now steps (I.left input.old) (I.left input.new) }
+    ensures ahead { MayTake (input.new ≡ input.old) (F.told files.old) name.now steps (I.left input.old) (I.left input.new) (status_of result) }
     ensures put_before { MayPutBefore (input.new ≡ input.old) (F.told files.old) name.now steps (I.left input.old) (I.left input.new) (O.written out.old) (O.written out.new) }
     ensures write_fault { result ≡ Outcome.WriteFault → Rose (O.faults out.old) (O.faults out.new) }
 
@@ -62,7 +63,7 @@ fn executed<I: Source, O: Sink>(
     ensures there { IsMissing result → ⊥ }
     ensures input_failed { result ≡ Outcome.ReadFault →
         InputFails bytes.now steps (I.left input.old) (I.left input.new) (O.written out.old) (O.written out.new) }
-    ensures ahead { (input.new ≡ input.old) ⊎ TakesOnly bytes.now steps (I.left input.old) (I.left input.new) }
+    ensures ahead { (input.new ≡ input.old) ⊎ TakesOnly bytes.now steps (I.left input.old) (I.left input.new) (status_of result) }
     ensures put_before { (input.new ≡ input.old) ⊎ PutsBefore bytes.now steps (I.left input.old) (I.left input.new) (O.written out.old) (O.written out.new) }
     ensures read_fault { result ≡ Outcome.ReadFault → Rose (I.faults input.old) (I.faults input.new) }
     ensures write_fault { result ≡ Outcome.WriteFault → Rose (O.faults out.old) (O.faults out.new) }

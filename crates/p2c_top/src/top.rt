@@ -68,7 +68,7 @@ pub fn p2c<F: Files, I: Source, O: Sink, E: Sink>(
         result ≡ 245 → MayExecutePart (F.told files.old) name steps (I.left input.old) (O.written out.old) (O.written out.new) }
 
     ensures ahead { (steps : ℕ) (name : List ℕ) → task_asked words.now ≡ Some (Running steps name) →
-        MayTake (input.new ≡ input.old) (F.told files.old) name steps (I.left input.old) (I.left input.new) }
+        MayTake (input.new ≡ input.old) (F.told files.old) name steps (I.left input.old) (I.left input.new) result }
     ensures put_before { (steps : ℕ) (name : List ℕ) → task_asked words.now ≡ Some (Running steps name) →
         MayPutBefore (input.new ≡ input.old) (F.told files.old) name steps (I.left input.old) (I.left input.new) (O.written out.old) (O.written out.new) }
 

@@ -55,5 +55,5 @@ returns-clause-put_before g c =
 pub returns-clause-ahead : goal.returns-clause-ahead
 returns-clause-ahead g c =
     let r = c.run_text-answer in
-    taken_only c.args.bytes.now c.args.steps (g.I.Source.left c.args.input.now) (g.I.Source.left r.new.input) (g.O.Sink.written c.args.out.now) (g.O.Sink.written r.new.out) r.result r.ensures.ran
+    taken_only c.args.bytes.now c.args.steps (g.I.Source.left c.args.input.now) (g.I.Source.left r.new.input) (g.O.Sink.written c.args.out.now) (g.O.Sink.written r.new.out) c.finished.result r.result c.finished.ensures r.ensures.ran
     (kept_input c.args.input.now r.new.input c.args.out.now r.new.out r.result r.ensures.untouched)

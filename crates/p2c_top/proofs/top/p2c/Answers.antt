@@ -1,5 +1,6 @@
-use Rattle.std.proofs.Common.{subst}
+use Rattle.std.proofs.Common.{◌≡◌, subst, sym}
 use Rattle.held_bytes.specs.Written.{Says}
+use Rattle.p2c_top.specs.Executed.{MayTake}
 use Rattle.p2c_top.specs.Messages.{message_of}
 use Rattle.command_words.specs.Asked.{asked}
 use Rattle.p2c_top.proofs.Translations.{says}
@@ -40,7 +41,10 @@ pub returns-clause-run_fault : goal.returns-clause-run_fault
 returns-clause-run_fault g c = run_fault_of (c.attempt-outcome.ensures.answers (asked c.args.words.now) c.asked-asked.ensures) c.status.ensures (c.attempt-outcome.ensures.of_input (asked c.args.words.now) c.asked-asked.ensures)
 
 pub returns-clause-ahead : goal.returns-clause-ahead
-returns-clause-ahead g c = (c.attempt-outcome.ensures.of_input (asked c.args.words.now) c.asked-asked.ensures).few
+returns-clause-ahead g c = λ steps name is.
+    let same : Type 0 = c.attempt-outcome.new.input ≡ c.args.input.now in
+    subst (λ status. MayTake same (g.F.Files.told c.args.files.now) name steps (g.I.Source.left c.args.input.now) (g.I.Source.left c.attempt-outcome.new.input) status) (sym c.status.ensures)
+    ((c.attempt-outcome.ensures.of_input (asked c.args.words.now) c.asked-asked.ensures).few steps name is)
 
 pub returns-clause-put_before : goal.returns-clause-put_before
 returns-clause-put_before g c = (c.attempt-outcome.ensures.of_input (asked c.args.words.now) c.asked-asked.ensures).put
