@@ -10,7 +10,7 @@ use Rattle.token_parsing.specs.declared.refusal.Refusal.TheVariants.{Unexpected,
 use Rattle.token_parsing.specs.Parser.{Outcome}
 use Rattle.token_parsing.proofs.Fair.{Fair, reads, refuses, stops}
 use Rattle.token_parsing.proofs.Tracked.{Along, along_all, along_front, Tracked, meets, past, refuses_past, too_deep}
-use Rattle.c_parser.specs.Depth.{Fits}
+use Rattle.c_expr_parser.specs.Depth.{Fits}
 use Rattle.c_parser.specs.Programs.{program}
 use Rattle.c_parser.specs.Laws.{Split, Ends, ReadIsSpelled, UnexpectedIsFirst, TooDeepIsDeep, SpelledIsRead}
 use Rattle.c_parser.proofs.FairPrograms.{ReadProgram, program_fair}

@@ -24,17 +24,17 @@ use Rattle.c_grammar.proofs.SpelledProgram.{or_void_follow, result_follow, varia
 use Rattle.token_parsing.specs.Parser.{Parser, and_then, begins, repeat}
 use Rattle.token_parsing.proofs.Fair.{At, reads, at_first, at_token, at_same, fair_then, fair_either, fair_repeat, fair_so, fair_token, fair_refuse}
 use Rattle.c_parser.specs.declared.program.Parts.{Parts}
-use Rattle.c_parser.specs.Classes.{numbers, marks, words, expect}
-use Rattle.c_parser.specs.Types.{object_type}
-use Rattle.c_parser.specs.Expressions.{largest_int, expr}
+use Rattle.c_expr_parser.specs.Classes.{numbers, marks, words, expect}
+use Rattle.c_expr_parser.specs.Types.{object_type}
+use Rattle.c_expr_parser.specs.Expressions.{largest_int, expr}
 use Rattle.c_parser.specs.Statements.{no_brace, statement}
 use Rattle.c_parser.specs.Programs.{variable_of, variable, array_length, member_of, member, next_member, members, next_type, types_after, types, typedef_of, pointer_name, typedef, next_parameter, parameters_after, parameters, begins_local, next_local, locals, block, no_functions, no_prototypes, no_globals, no_declarations, with_forward, with_declaration, with_global, with_prototype, with_function, forward, struct_of, structure, type_definition, global, prototype_of, prototype, function_of, function, after_parameters, after_name, after_result, after_struct_name, after_struct, next_part, no_int, no_parts, parts, main_of, main, program_of, end_of, program}
-use Rattle.c_parser.specs.Depth.{body_depth, Fits}
-use Rattle.c_parser.proofs.FairTokens.{FairC, mark_fair, word_fair, name_fair, number_is, number_most, a_name, a_name_is}
-use Rattle.c_parser.proofs.FairTypes.{type_fair, stars_fair, result_fair}
-use Rattle.c_parser.proofs.FairExpressions.{expr_fair}
+use Rattle.c_expr_parser.specs.Depth.{body_depth, Fits}
+use Rattle.c_expr_parser.proofs.FairTokens.{FairC, mark_fair, word_fair, name_fair, number_is, number_most, a_name, a_name_is}
+use Rattle.c_expr_parser.proofs.FairTypes.{type_fair, stars_fair, result_fair}
+use Rattle.c_expr_parser.proofs.FairExpressions.{expr_fair}
 use Rattle.c_parser.proofs.FairStatements.{BodyHole, statements_fair, statement_fair}
-use Rattle.c_parser.proofs.Holes.{Law, Among, Filled, begins_by, inner, in_second, in_after, NoLevel, ResultHole}
+use Rattle.c_expr_parser.proofs.Holes.{Law, Among, Filled, begins_by, inner, in_second, in_after, NoLevel, ResultHole}
 use Rattle.c_parser.proofs.PartsHoles.{spell_parts, AreParts, forward_pushed, declaration_pushed, global_pushed, prototype_pushed, function_pushed, empty_main, FunctionHas, filled_function, filled_main, filled_declaration}
 use Rattle.c_parser.proofs.Pushed.{all_pushed, each_pushed}
 

@@ -18,16 +18,17 @@ use Rattle.c_grammar.specs.Text.{Begins, MayBegin}
 use Rattle.c_grammar.proofs.Spelled.{count_more, next_follow, all_follow, expr_follow, place_follow, into_follow, callee_follow, body_follow}
 use Rattle.token_parsing.specs.Parser.{Parser, begins}
 use Rattle.token_parsing.proofs.Fair.{At, reads, at_same, fair_then, fair_either, fair_repeat, fair_so, fair_refuse, fair_stop}
-use Rattle.c_parser.specs.Classes.{names, marks, words}
-use Rattle.c_parser.specs.Expressions.{closed, expr}
+use Rattle.c_expr_parser.specs.Classes.{names, marks, words}
+use Rattle.c_expr_parser.specs.Expressions.{closed, expr}
 use Rattle.c_parser.specs.Statements.{next_argument, some_arguments, listed_arguments, call, indirect, callee, calls, malloc_opening, malloc, get_char, value, call_into, assigned, callee_of, label_of, called, labelled, placed, free, put_char, goto, returned, return_with, no_brace, next_statement, statements, body, enclosed, otherwise, conditional, while_loop, simple, statement_by, statement}
-use Rattle.c_parser.specs.Depth.{expr_depth, place_depth, into_depth, callee_depth, arguments_depth, value_depth, statement_depth, body_depth}
-use Rattle.c_parser.proofs.FairTokens.{FairC, mark_fair, word_fair, name_fair, a_name, a_name_is}
-use Rattle.c_parser.proofs.FairTypes.{type_fair}
-use Rattle.c_parser.proofs.FairExpressions.{ReadPlace, ExprFair, place_fair, expr_fair}
-use Rattle.c_parser.proofs.Holes.{Law, Among, Filled, begins_by, inner, in_first, in_second, in_later, in_after, level_here, ExprHole, PlaceHole, TypeHole}
+use Rattle.c_expr_parser.specs.Depth.{expr_depth, place_depth, into_depth, callee_depth, arguments_depth, value_depth, statement_depth, body_depth}
+use Rattle.c_expr_parser.proofs.FairTokens.{FairC, mark_fair, word_fair, name_fair, a_name, a_name_is}
+use Rattle.c_expr_parser.proofs.FairTypes.{type_fair}
+use Rattle.c_expr_parser.proofs.FairExpressions.{ReadPlace, ExprFair, place_fair, expr_fair}
+use Rattle.c_expr_parser.proofs.Holes.{Law, Among, Filled, begins_by, inner, in_first, in_second, in_later, in_after, level_here, ExprHole, PlaceHole, TypeHole}
 use Rattle.c_parser.proofs.Pushed.{all_pushed, each_pushed, body_pushed, is_body_pushed, body_depth_pushed, arguments_depth_pushed, all_last, body_last}
-use Rattle.c_parser.proofs.Closed.{fair_closed, fair_arguments}
+use Rattle.c_expr_parser.proofs.Closed.{fair_closed}
+use Rattle.c_parser.proofs.Arguments.{fair_arguments}
 
 -- ---- holes
 

@@ -5,9 +5,9 @@ use Rattle.c_grammar.specs.declared.token.Mark.TheVariants as mark
 use Rattle.c_grammar.specs.Token.{Token}
 use Rattle.c_grammar.specs.Seen.{tokens_of}
 use Rattle.token_parsing.specs.Parser.{begins, rest}
-use Rattle.c_parser.specs.Classes.{marks}
+use Rattle.c_expr_parser.specs.Classes.{marks}
 use Rattle.c_parser.specs.Statements.{after_group}
-use Rattle.c_parser.proofs.Turns.{as_long}
+use Rattle.c_expr_parser.proofs.Turns.{as_long}
 
 -- what is after the group, by whether the next token opens or closes a group
 abbrev by_tests : Bool → Bool → ℕ → List Token → List Token

@@ -15,7 +15,7 @@ use Rattle.c_grammar.proofs.Spelled.{count_more, all_follow}
 use Rattle.c_grammar.proofs.SpelledProgram.{forward_follow, declaration_follow, line_follow, prototype_follow, function_follow}
 use Rattle.c_parser.specs.declared.program.Parts.{Parts}
 use Rattle.c_parser.specs.Programs.{is_empty, both, no_functions, no_prototypes, no_globals, no_declarations, with_forward, with_declaration, with_global, with_prototype, with_function, program_of}
-use Rattle.c_parser.proofs.Holes.{Among, Filled, in_first, in_second, in_after, NoLevel}
+use Rattle.c_expr_parser.proofs.Holes.{Among, Filled, in_first, in_second, in_after, NoLevel}
 use Rattle.c_parser.proofs.Pushed.{all_pushed, each_pushed, all_last}
 
 abbrev pub spell_parts : Parts → List Token → List Token

@@ -8,8 +8,8 @@ use Rattle.c_grammar.specs.Grammar.{IsStatement, IsBody}
 use Rattle.c_grammar.specs.Demands.{Demands, Names, all_demands, body_demands, statement_demands, labels_in}
 use Rattle.c_grammar.specs.Types.{Known}
 use Rattle.c_grammar.proofs.Spelled.{Follow, count_more, statement_follow}
-use Rattle.c_parser.specs.Depth.{statement_depth, body_depth, expr_depth, arguments_depth}
-use Rattle.c_parser.proofs.Holes.{Among, in_first, in_second, in_after}
+use Rattle.c_expr_parser.specs.Depth.{statement_depth, body_depth, expr_depth, arguments_depth}
+use Rattle.c_expr_parser.proofs.Holes.{Among, in_first, in_second, in_after}
 
 pub all_pushed : {A : Type 0} (spell : Spelling A) (all : List A) (a : A) (u : List Token) → spell_all spell (all ++ a ∷ []) u ≡ spell_all spell all (spell a u)
 all_pushed spell [] a u = refl

@@ -11,7 +11,7 @@ use Rattle.c_grammar.specs.declared.token.Mark.TheVariants as mark
 use Rattle.c_grammar.specs.Token.{Token, Identifier, Sign}
 use Rattle.c_grammar.specs.Spelling.{spell_cast, spell_expr, spell_place, unary_mark, binary_mark}
 use Rattle.token_parsing.specs.Parser.{begins}
-use Rattle.c_parser.specs.Classes.{same_mark}
+use Rattle.c_expr_parser.specs.Classes.{same_mark}
 use Rattle.c_parser.specs.Statements.{after_group}
 
 unary_skipped : (op : CUnary) (n : ℕ) (w : List Token) → after_group n (Sign (unary_mark op) ∷ w) ≡ after_group n w

@@ -11,17 +11,18 @@ use Rattle.c_grammar.specs.Spelling.{spell_all, spell_listed, spell_expr, spell_
 use Rattle.c_grammar.specs.Grammar.{IsBody}
 use Rattle.token_parsing.specs.Parser.{Parser, Outcome, and_then, begins, rest, again, repeat}
 use Rattle.token_parsing.proofs.Tracked.{Shrinks, Short, stops_short, short_then, Takes, Along, ended, last, longer, Tracked, one_shrinks, pure_shrinks, then_shrinks, takes_token, takes_then, takes_either, same_begins, begun_short, short_tracked, short_turn, track_then, track_pure, track_turn, track_no_turn}
-use Rattle.c_parser.specs.Classes.{same_word, same_mark, names, words, marks, scalars, expect}
-use Rattle.c_parser.specs.Types.{struct_type, byte_type, void_pointer, base_type, object_type}
-use Rattle.c_parser.specs.Expressions.{variable, base_place, place, expr}
+use Rattle.c_expr_parser.specs.Classes.{same_word, same_mark, names, words, marks, scalars, expect}
+use Rattle.c_expr_parser.specs.Types.{struct_type, byte_type, void_pointer, base_type, object_type}
+use Rattle.c_expr_parser.specs.Expressions.{variable, base_place, place, expr}
 use Rattle.c_parser.specs.Statements.{no_brace, next_statement, statements, simple, statement_by, statement}
 use Rattle.c_parser.specs.Programs as programs
 use Rattle.c_parser.specs.Programs.{variable_of, type_words, begins_local, next_local, locals, block}
-use Rattle.c_parser.specs.Depth.{body_depth}
-use Rattle.c_parser.proofs.Shrinks.{stars_shrinks, selectors_shrinks, expr_shrinks, placed_shrinks, next_statement_shrinks, statements_shrinks, statement_shrinks, next_local_shrinks, locals_shrinks}
-use Rattle.c_parser.proofs.TrackedTokens.{mark_tracked, name_tracked}
-use Rattle.c_parser.proofs.TrackedTypes.{NoStar, type_tracked}
-use Rattle.c_parser.proofs.TrackedExpressions.{expr_tracked}
+use Rattle.c_expr_parser.specs.Depth.{body_depth}
+use Rattle.c_expr_parser.proofs.Shrinks.{stars_shrinks, selectors_shrinks, expr_shrinks}
+use Rattle.c_parser.proofs.Shrinks.{placed_shrinks, next_statement_shrinks, statements_shrinks, statement_shrinks, next_local_shrinks, locals_shrinks}
+use Rattle.c_expr_parser.proofs.TrackedTokens.{mark_tracked, name_tracked}
+use Rattle.c_expr_parser.proofs.TrackedTypes.{NoStar, type_tracked}
+use Rattle.c_expr_parser.proofs.TrackedExpressions.{expr_tracked}
 use Rattle.c_parser.proofs.TrackedStatements.{expr_taking, statements_tracked, statement_takes, statement_tracked}
 
 name_no_star : (name : List ℕ) (w : List Token) → NoStar (Identifier name ∷ w)

@@ -20,13 +20,14 @@ use Rattle.c_grammar.specs.Grammar.{IsStruct, IsDeclaration, IsFunction, IsMain,
 use Rattle.token_parsing.specs.Parser.{Parser, and_then, begins, rest, again, repeat}
 use Rattle.token_parsing.proofs.Tracked.{Shrinks, Takes, Along, ended, last, longer, Tracked, one_shrinks, pure_shrinks, then_shrinks, takes_token, takes_then, takes_either, along_some, same_begins, track_first, track_second, track_then, track_pure, track_turn, track_no_turn}
 use Rattle.c_parser.specs.declared.program.Parts.{Parts}
-use Rattle.c_parser.specs.Classes.{same_word, same_mark, words, marks}
-use Rattle.c_parser.specs.Types.{pointer_to, object_type, stars, result_type, after_void}
+use Rattle.c_expr_parser.specs.Classes.{same_word, same_mark, words, marks}
+use Rattle.c_expr_parser.specs.Types.{pointer_to, object_type, stars, result_type, after_void}
 use Rattle.c_parser.specs.Programs.{typedef, block, no_functions, no_prototypes, no_globals, no_declarations, with_forward, with_declaration, with_global, with_prototype, with_function, forward, structure, type_definition, prototype, function, after_parameters, after_name, after_result, after_struct_name, after_struct, next_part, no_int, parts, main_of, main, program_of, end_of, program}
-use Rattle.c_parser.specs.Depth.{body_depth, Fits}
-use Rattle.c_parser.proofs.Shrinks.{pointer_to_shrinks, after_shrinks, typedef_ends, block_shrinks, after_parameters_shrinks, after_name_shrinks, after_result_shrinks, after_struct_name_shrinks, next_part_shrinks, main_shrinks, end_shrinks}
-use Rattle.c_parser.proofs.TrackedTokens.{mark_tracked, word_tracked, name_tracked}
-use Rattle.c_parser.proofs.TrackedTypes.{NoStar, result_tracked}
+use Rattle.c_expr_parser.specs.Depth.{body_depth, Fits}
+use Rattle.c_expr_parser.proofs.Shrinks.{pointer_to_shrinks, after_shrinks}
+use Rattle.c_parser.proofs.Shrinks.{typedef_ends, block_shrinks, after_parameters_shrinks, after_name_shrinks, after_result_shrinks, after_struct_name_shrinks, next_part_shrinks, main_shrinks, end_shrinks}
+use Rattle.c_expr_parser.proofs.TrackedTokens.{mark_tracked, word_tracked, name_tracked}
+use Rattle.c_expr_parser.proofs.TrackedTypes.{NoStar, result_tracked}
 use Rattle.c_parser.proofs.TrackedLocals.{type_takes, block_tracked}
 use Rattle.c_parser.proofs.TrackedPrograms.{result_begun, members_tracked, typedef_tracked, parameters_tracked}
 

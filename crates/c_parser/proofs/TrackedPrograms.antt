@@ -13,13 +13,14 @@ use Rattle.c_grammar.specs.Spelling.{spell_all, spell_next, spell_or_void, spell
 use Rattle.c_grammar.specs.Grammar.{IsNumber, IsMember}
 use Rattle.token_parsing.specs.Parser.{and_then, begins, rest}
 use Rattle.token_parsing.proofs.Tracked.{Shrinks, Along, Tracked, one_shrinks, pure_shrinks, then_shrinks, repeat_shrinks, takes_token, takes_then, same_begins, track_first, track_second, track_then, track_pure, Item, Listing, track_list}
-use Rattle.c_parser.specs.Classes.{same_word, same_mark, words, marks, expect}
-use Rattle.c_parser.specs.Expressions.{largest_int}
+use Rattle.c_expr_parser.specs.Classes.{same_word, same_mark, words, marks, expect}
+use Rattle.c_expr_parser.specs.Expressions.{largest_int}
 use Rattle.c_parser.specs.Statements.{no_brace}
 use Rattle.c_parser.specs.Programs.{variable_of, variable, array_length, member_of, member, next_member, members, next_type, types, typedef_of, pointer_name, typedef, next_parameter, parameters, no_int}
-use Rattle.c_parser.proofs.Shrinks.{type_shrinks, result_shrinks, variable_shrinks, length_shrinks, member_shrinks, next_member_shrinks, next_type_shrinks, types_after_shrinks, types_shrinks, next_parameter_shrinks, parameters_after_shrinks}
-use Rattle.c_parser.proofs.TrackedTokens.{mark_tracked, word_tracked, name_tracked, number_tracked}
-use Rattle.c_parser.proofs.TrackedTypes.{NoStar, type_tracked, result_tracked}
+use Rattle.c_expr_parser.proofs.Shrinks.{type_shrinks, result_shrinks}
+use Rattle.c_parser.proofs.Shrinks.{variable_shrinks, length_shrinks, member_shrinks, next_member_shrinks, next_type_shrinks, types_after_shrinks, types_shrinks, next_parameter_shrinks, parameters_after_shrinks}
+use Rattle.c_expr_parser.proofs.TrackedTokens.{mark_tracked, word_tracked, name_tracked, number_tracked}
+use Rattle.c_expr_parser.proofs.TrackedTypes.{NoStar, type_tracked, result_tracked}
 use Rattle.c_parser.proofs.TrackedLocals.{variable_tracked, variable_takes}
 use Rattle.c_parser.proofs.TrackedStatements.{brace_steady}
 

@@ -14,16 +14,18 @@ use Rattle.c_grammar.specs.Grammar.{IsExpr, IsPlace, IsCallee, IsStatement, IsBo
 use Rattle.c_grammar.proofs.Spelled.{expr_follow}
 use Rattle.token_parsing.specs.Parser.{Parser, one_of, begins, rest, either}
 use Rattle.token_parsing.proofs.Tracked.{Shrinks, Short, relaxed, stops_short, short_then, Takes, Along, ended, last, longer, Tracked, too_deep, one_shrinks, pure_shrinks, then_shrinks, either_shrinks, repeat_shrinks, takes_token, takes_then, takes_either, along_split, same_begins, begun_short, short_tracked, other_text, track_first, track_second, track_then, track_pure, Item, Listing, track_list}
-use Rattle.c_parser.specs.Classes.{same_word, same_mark, names, words, marks}
-use Rattle.c_parser.specs.Expressions.{closed, pointee, variable, base_place, place, opened, read_variable, read_pointee, expr_by, expr}
+use Rattle.c_expr_parser.specs.Classes.{same_word, same_mark, names, words, marks}
+use Rattle.c_expr_parser.specs.Expressions.{closed, pointee, variable, base_place, place, opened, read_variable, read_pointee, expr_by, expr}
 use Rattle.c_parser.specs.Statements.{next_argument, some_arguments, listed_arguments, call, indirect, callee, after_group, calls, malloc_opening, malloc, get_char, value, call_into, assigned, callee_of, called, placed, free, put_char, goto, returned, return_with, no_brace, next_statement, statements, body, enclosed, otherwise, conditional, while_loop, simple, statement_by, statement}
-use Rattle.c_parser.specs.Depth.{expr_depth, place_depth, callee_depth, arguments_depth, value_depth, statement_depth, body_depth}
-use Rattle.c_parser.proofs.Shrinks.{type_shrinks, selectors_shrinks, pointee_shrinks, opened_shrinks, expr_shrinks, next_argument_shrinks, arguments_shrinks, call_shrinks, malloc_shrinks, get_char_shrinks, value_shrinks, call_into_shrinks, placed_shrinks, returned_shrinks, next_statement_shrinks, statements_shrinks, body_shrinks, otherwise_shrinks, statement_shrinks}
-use Rattle.c_parser.proofs.TrackedTokens.{mark_tracked, word_tracked, name_tracked}
-use Rattle.c_parser.proofs.TrackedTypes.{type_tracked}
-use Rattle.c_parser.proofs.TrackedExpressions.{NoSelector, no_selector_mark, expr_starts, unary_no_star, ExprTracked, place_tracked, expr_tracked}
+use Rattle.c_expr_parser.specs.Depth.{expr_depth, place_depth, callee_depth, arguments_depth, value_depth, statement_depth, body_depth}
+use Rattle.c_expr_parser.proofs.Shrinks.{type_shrinks, selectors_shrinks, pointee_shrinks, opened_shrinks, expr_shrinks}
+use Rattle.c_parser.proofs.Shrinks.{next_argument_shrinks, arguments_shrinks, call_shrinks, malloc_shrinks, get_char_shrinks, value_shrinks, call_into_shrinks, placed_shrinks, returned_shrinks, next_statement_shrinks, statements_shrinks, body_shrinks, otherwise_shrinks, statement_shrinks}
+use Rattle.c_expr_parser.proofs.TrackedTokens.{mark_tracked, word_tracked, name_tracked}
+use Rattle.c_expr_parser.proofs.TrackedTypes.{type_tracked}
+use Rattle.c_expr_parser.proofs.TrackedExpressions.{NoSelector, no_selector_mark, expr_starts, unary_no_star, ExprTracked, place_tracked, expr_tracked}
 use Rattle.c_parser.proofs.TrackedCalls.{expr_skipped}
-use Rattle.c_parser.proofs.Closed.{closed_shrinks, enclosed_shrinks, tracked_closed, tracked_arguments}
+use Rattle.c_expr_parser.proofs.Closed.{closed_shrinks, tracked_closed}
+use Rattle.c_parser.proofs.Arguments.{enclosed_shrinks, tracked_arguments}
 
 -- ---- what an expression does not begin with
 

@@ -5,7 +5,7 @@ use Rattle.c_grammar.specs.Token.{Token}
 use Rattle.c_grammar.specs.Seen.{AreTokens}
 use Rattle.c_grammar.specs.Text.{Spells, Begins, MayBegin}
 use Rattle.token_parsing.specs.declared.refusal.Refusal.TheVariants.{Unexpected, TooDeep}
-use Rattle.c_parser.specs.Depth.{Fits}
+use Rattle.c_expr_parser.specs.Depth.{Fits}
 use Rattle.c_parser.specs.Programs.{program}
 
 -- the tokens before a refused place, and those from it on, of which there are so many

@@ -18,9 +18,9 @@ use Rattle.c_grammar.specs.Token.{Token, Identifier, Numeral, Quoted, Sign}
 use Rattle.token_parsing.specs.declared.refusal.Refusal.TheVariants.{Unexpected}
 use Rattle.token_parsing.specs.Parser.{Parser, Class, ◌>>=◌, pure, refuse, one_of, begins, rest, either, repeat}
 use Rattle.c_parser.specs.declared.program.Parts.{Parts}
-use Rattle.c_parser.specs.Classes.{names, numbers, words, marks, expect, expect_word}
-use Rattle.c_parser.specs.Types.{object_type, result_type, stars}
-use Rattle.c_parser.specs.Expressions.{largest_int}
+use Rattle.c_expr_parser.specs.Classes.{names, numbers, words, marks, expect, expect_word}
+use Rattle.c_expr_parser.specs.Types.{object_type, result_type, stars}
+use Rattle.c_expr_parser.specs.Expressions.{largest_int}
 use Rattle.c_parser.specs.Statements.{no_brace, statements, statement}
 
 abbrev pub variable_of : ObjectType → List ℕ → CVariable

@@ -7,9 +7,9 @@ use Rattle.c_grammar.specs.declared.token.Word.TheVariants as word
 use Rattle.c_grammar.specs.declared.token.Mark.TheVariants as mark
 use Rattle.c_grammar.specs.Token.{Token}
 use Rattle.token_parsing.specs.Parser.{Parser, ◌>>=◌, pure, refuse, stop, one_of, begins, rest, either, repeat}
-use Rattle.c_parser.specs.Classes.{names, words, marks, expect, expect_word}
-use Rattle.c_parser.specs.Types.{object_type}
-use Rattle.c_parser.specs.Expressions.{closed, place, expr}
+use Rattle.c_expr_parser.specs.Classes.{names, words, marks, expect, expect_word}
+use Rattle.c_expr_parser.specs.Types.{object_type}
+use Rattle.c_expr_parser.specs.Expressions.{closed, place, expr}
 
 -- ---- calls
 

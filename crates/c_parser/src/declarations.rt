@@ -2,14 +2,14 @@
 ghost use Rattle.std.specs.Prelude.{◌≡◌};
 ghost use Rattle.c_grammar.specs.Seen.{tokens_of};
 ghost use Rattle.c_grammar.specs.declared.token.Mark.TheVariants as mark;
-ghost use Rattle.c_parser.specs.Classes.{marks};
+ghost use Rattle.c_expr_parser.specs.Classes.{marks};
 ghost use Rattle.c_parser.specs.Programs as spec;
 ghost use Rattle.c_parser.specs.Statements.{no_brace};
 ghost use Rattle.token_parsing.specs.Parser.{Gives, begins, repeat};
 
 use crate::statements::statements;
-use crate::step::{after, expect, expect_word, is, is_name, is_word, name, number, same};
-use crate::types::{object_type, result_type};
+use c_expr_parser::step::{after, expect, expect_word, is, is_name, is_word, name, number, same};
+use c_expr_parser::types::{object_type, result_type};
 use c_grammar::token::{CToken, Mark, Word};
 use c_tree::Name;
 use c_tree::program::{CMember, CTypedef, CVariable};

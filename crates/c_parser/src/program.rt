@@ -5,8 +5,8 @@ ghost use Rattle.c_parser.specs.Programs as spec;
 ghost use Rattle.token_parsing.specs.Parser.{Gives};
 
 use crate::declarations::{block, members, parameters, typedef};
-use crate::step::{expect, expect_word, is, is_word, name, same};
-use crate::types::{result_type, stars};
+use c_expr_parser::step::{expect, expect_word, is, is_word, name, same};
+use c_expr_parser::types::{result_type, stars};
 use c_grammar::token::{CToken, Mark, Word};
 use c_tree::Name;
 use c_tree::program::{CDeclaration, CFunction, CMain, CProgram, CPrototype, CStruct, CVariable};

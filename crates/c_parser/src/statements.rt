@@ -2,16 +2,16 @@
 ghost use Rattle.std.specs.Prelude.{◌≡◌, Option, Some, None, List};
 ghost use Rattle.c_tree.specs.Tree.{body_of, Goto};
 ghost use Rattle.c_grammar.specs.Seen.{tokens_of};
-ghost use Rattle.c_parser.specs.Expressions.{expr as expr_of};
+ghost use Rattle.c_expr_parser.specs.Expressions.{expr as expr_of};
 ghost use Rattle.c_parser.specs.Statements as spec;
 ghost use Rattle.token_parsing.specs.Parser.{Gives, and_then, begins, repeat};
-ghost use Rattle.c_parser.specs.Classes.{marks};
-ghost use Rattle.c_parser.specs.Expressions.{place as place_of};
+ghost use Rattle.c_expr_parser.specs.Classes.{marks};
+ghost use Rattle.c_expr_parser.specs.Expressions.{place as place_of};
 ghost use Rattle.c_grammar.specs.declared.token.Mark.TheVariants as mark;
 
-use crate::expressions::{closed, expr, place};
-use crate::step::{after, expect, expect_word, is, is_name, is_word, name, same};
-use crate::types::object_type;
+use c_expr_parser::expressions::{closed, expr, place};
+use c_expr_parser::step::{after, expect, expect_word, is, is_name, is_word, name, same};
+use c_expr_parser::types::object_type;
 use c_grammar::token::{CToken, Mark, Word};
 use c_tree::Name;
 use c_tree::expr::{CBasePlace, CExpr, CPlace};

@@ -11,7 +11,7 @@ use Rattle.c_grammar.specs.Types.{Known, see, seen_first, seen_last, known}
 use Rattle.c_grammar.specs.Spelling.{count, spell_all, spell_next, spell_or_void, spell_result, spell_cast, spell_expr, spell_place, spell_into, spell_callee, spell_statement, spell_body, spell_variable, spell_variable_line, spell_forward, spell_declaration, spell_prototype, spell_function}
 use Rattle.c_grammar.specs.Demands.{Names, Demands, HoldAll, after, all_demands, listed_demands, same, type_demands, cast_demands, expr_demands, place_demands, into_demands, callee_demands, value_demands, own_labels, labels_in, labels_of, statement_demands, body_demands, variable_demands, and_variable, and_variables, forward_demands, and_name, declaration_demands, heading_demands, prototype_demands, block_demands, function_demands, and_function, main_demands, program_demands}
 use Rattle.c_grammar.proofs.Hold.{held_before, hold_first, hold_second}
-use Rattle.c_parser.specs.Depth.{expr_depth, place_depth, into_depth, callee_depth, value_depth, arguments_depth, statement_depth, body_depth, Fits}
+use Rattle.c_expr_parser.specs.Depth.{expr_depth, place_depth, into_depth, callee_depth, value_depth, arguments_depth, statement_depth, body_depth, Fits}
 
 -- the demands of a part that begins n tokens later, behind those of another
 behind : (first : Demands) (n : ℕ) (second : Demands) → HoldAll (first ++ after n second) → HoldAll second

@@ -18,7 +18,7 @@ use Rattle.c_grammar.specs.Types.{Seen, see, seen_first, seen_last, Known, known
 use Rattle.c_grammar.specs.Spelling.{Spelling, count, spell_next, spell_type, spell_result, spell_cast, spell_expr, spell_place, spell_into, spell_callee, spell_statement, spell_body, spell_variable, spell_variable_line, spell_member, spell_forward, spell_declaration, spell_or_void, spell_all, spell_prototype, spell_function}
 use Rattle.c_grammar.specs.Demands.{Names, Demand, Level, Leads, Differs, Declared, Length, Cells, Demands, HoldAll, after, all_demands, listed_demands, same, pointed_demands, type_demands, result_demands, cast_demands, expr_demands, place_demands, into_demands, callee_demands, value_demands, own_labels, labels_in, labels_of, statement_demands, body_demands, variable_demands, and_variable, and_variables, length_demands, member_demands, and_member, forward_demands, and_name, declaration_demands, heading_demands, prototype_demands, block_demands, function_demands, and_function, main_demands, program_demands}
 use Rattle.c_conditions.specs.Conditions.{HoldAllButLevels}
-use Rattle.c_parser.specs.Depth.{expr_depth, place_depth, into_depth, callee_depth, value_depth, arguments_depth, statement_depth, body_depth, Fits}
+use Rattle.c_expr_parser.specs.Depth.{expr_depth, place_depth, into_depth, callee_depth, value_depth, arguments_depth, statement_depth, body_depth, Fits}
 
 abbrev LevelHolds : Demand → Type 0
 LevelHolds (Level n) = n ≤ 2400

@@ -19,7 +19,7 @@ use Rattle.c_grammar.proofs.StandProgram.{program_stand}
 use Rattle.c_grammar.proofs.Unique.{same_tokens}
 use Rattle.token_parsing.specs.declared.refusal.Refusal.{Refusal}
 use Rattle.token_parsing.specs.declared.refusal.Refusal.TheVariants as refusal
-use Rattle.c_parser.specs.Depth.{Fits}
+use Rattle.c_expr_parser.specs.Depth.{Fits}
 use Rattle.c_parser.specs.Laws.{Split, Ends}
 use Rattle.c_parser.specs.Programs.{program}
 use Rattle.c_parser.proofs.Clauses.{read_is_spelled, unexpected_is_first, too_deep_is_deep}

@@ -3,7 +3,7 @@ use Rattle.std.proofs.lemmas.Grind.{common_steps}
 use Rattle.c_grammar.specs.Seen.{tokens_of}
 use Rattle.token_parsing.specs.Parser.{again, repeat}
 use Rattle.c_parser.specs.Programs as programs
-use Rattle.c_parser.proofs.Turns.{one_more, no_more, as_long}
+use Rattle.c_expr_parser.proofs.Turns.{one_more, no_more, as_long}
 use Rattle.c_parser.proofs.declarations.locals.Goals as goal
 
 pub loop-turn-init : goal.loop-turn-init

@@ -2,7 +2,7 @@ use Rattle.std.proofs.Common.{◌≡◌, ◌-◌}
 use Rattle.c_grammar.specs.declared.token.Mark.TheVariants as mark
 use Rattle.c_grammar.specs.Seen.{tokens_of}
 use Rattle.token_parsing.specs.Parser.{begins, again, repeat}
-use Rattle.c_parser.specs.Classes.{marks}
+use Rattle.c_expr_parser.specs.Classes.{marks}
 use Rattle.c_parser.specs.Programs as programs
 use Rattle.c_parser.proofs.declarations.more_types.Given as goal
 

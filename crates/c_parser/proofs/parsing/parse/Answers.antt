@@ -7,7 +7,7 @@ use Rattle.token_parsing.specs.declared.refusal.ParseError.TheVariants.{At}
 use Rattle.token_parsing.specs.Parser.{Fails}
 use Rattle.c_grammar.specs.Seen.{tokens_of}
 use Rattle.c_parser.proofs.Shrinks.{unexpected_within, too_deep_within}
-use Rattle.c_parser.proofs.Turns.{as_long}
+use Rattle.c_expr_parser.proofs.Turns.{as_long}
 use Rattle.c_parser.proofs.parsing.parse.Goals as goal
 
 refused : {Y : Type 0} (e : ParseError) (f : Refusal) (read : Result Y Refusal) → Fails e read → e ≡ At f → read ≡ Err f

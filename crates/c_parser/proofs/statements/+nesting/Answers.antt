@@ -4,7 +4,7 @@ use Rattle.c_grammar.specs.Seen.{tokens_of}
 use Rattle.token_parsing.specs.Parser.{again, repeat}
 use Rattle.c_parser.specs.Statements as statements
 use Rattle.c_parser.specs.Statements.{statement, statements}
-use Rattle.c_parser.proofs.Turns.{one_more, no_more, as_long, deeper}
+use Rattle.c_expr_parser.proofs.Turns.{one_more, no_more, as_long, deeper}
 use Rattle.c_parser.proofs.statements.+nesting.Goals as goal
 
 pub statement-returns-then-depth-eq0 : goal.statement-returns-then-depth-eq0

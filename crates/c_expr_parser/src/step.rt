@@ -3,8 +3,8 @@ ghost use Rattle.std.specs.Prelude.{◌≡◌, nat_le};
 ghost use Rattle.std.specs.Char as char_;
 ghost use Rattle.std.specs.Str.Parse.{digits_value};
 ghost use Rattle.c_grammar.specs.Seen.{tokens_of};
-ghost use Rattle.c_parser.specs.Classes.{same_word, same_mark, if_true};
-ghost use Rattle.c_parser.specs.Classes as spec;
+ghost use Rattle.c_expr_parser.specs.Classes.{same_word, same_mark, if_true};
+ghost use Rattle.c_expr_parser.specs.Classes as spec;
 ghost use Rattle.token_parsing.specs.Parser.{Gives, begins, one_of, rest};
 
 use c_grammar::token::{CToken, Mark, Word};

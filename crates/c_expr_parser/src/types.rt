@@ -2,9 +2,9 @@
 ghost use Rattle.std.specs.Prelude.{◌≡◌, Ok};
 ghost use Rattle.c_tree.specs.Tree.{Named};
 ghost use Rattle.c_grammar.specs.Seen.{tokens_of};
-ghost use Rattle.c_parser.specs.Types as spec;
+ghost use Rattle.c_expr_parser.specs.Types as spec;
 ghost use Rattle.token_parsing.specs.Parser.{Gives, and_then, one_of};
-ghost use Rattle.c_parser.specs.Classes.{names, scalars, scalar_casts};
+ghost use Rattle.c_expr_parser.specs.Classes.{names, scalars, scalar_casts};
 
 use crate::step::{expect, expect_word, is, is_name, is_word, name, same};
 use c_grammar::token::{CToken, Mark, Word};

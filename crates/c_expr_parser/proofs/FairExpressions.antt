@@ -17,13 +17,13 @@ use Rattle.c_grammar.specs.Text.{MayBegin}
 use Rattle.c_grammar.proofs.Spelled.{count_more, cast_follow, expr_follow, place_follow}
 use Rattle.token_parsing.specs.Parser.{Parser, and_then, begins}
 use Rattle.token_parsing.proofs.Fair.{At, reads, at_token, fair_then, fair_either, fair_repeat, fair_token, fair_spelled, fair_stop}
-use Rattle.c_parser.specs.Classes.{names, numbers, marks, words, unaries, binaries}
-use Rattle.c_parser.specs.Expressions.{largest_int, largest_word, number, word_number, null, begins_selector, member, element, selected, selectors, pointee, variable, base_place, place, read_pointee, address, unary, binary, cast, begins_cast, opened, read_variable, expr_by, expr}
-use Rattle.c_parser.specs.Depth.{expr_depth, place_depth}
-use Rattle.c_parser.proofs.FairTokens.{FairC, mark_fair, word_fair, name_fair, number_is, number_most, unary_is, binary_is, a_name, a_name_is}
-use Rattle.c_parser.proofs.Holes.{Law, begins_by, inner, in_first, in_second, in_later, in_after, ExprHole, PlaceHole, CastHole, read_hole, may_begin}
-use Rattle.c_parser.proofs.FairTypes.{cast_type_fair}
-use Rattle.c_parser.proofs.Closed.{fair_closed}
+use Rattle.c_expr_parser.specs.Classes.{names, numbers, marks, words, unaries, binaries}
+use Rattle.c_expr_parser.specs.Expressions.{largest_int, largest_word, number, word_number, null, begins_selector, member, element, selected, selectors, pointee, variable, base_place, place, read_pointee, address, unary, binary, cast, begins_cast, opened, read_variable, expr_by, expr}
+use Rattle.c_expr_parser.specs.Depth.{expr_depth, place_depth}
+use Rattle.c_expr_parser.proofs.FairTokens.{FairC, mark_fair, word_fair, name_fair, number_is, number_most, unary_is, binary_is, a_name, a_name_is}
+use Rattle.c_expr_parser.proofs.Holes.{Law, begins_by, inner, in_first, in_second, in_later, in_after, ExprHole, PlaceHole, CastHole, read_hole, may_begin}
+use Rattle.c_expr_parser.proofs.FairTypes.{cast_type_fair}
+use Rattle.c_expr_parser.proofs.Closed.{fair_closed}
 
 -- ---- what is read
 

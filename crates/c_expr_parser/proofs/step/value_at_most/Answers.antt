@@ -1,7 +1,7 @@
 use Rattle.std.proofs.Common.{arith}
 use Rattle.std.specs.Str.Parse.{digits_value}
-use Rattle.c_parser.proofs.Digits.{too_large}
-use Rattle.c_parser.proofs.step.value_at_most.Goals as goal
+use Rattle.c_expr_parser.proofs.Digits.{too_large}
+use Rattle.c_expr_parser.proofs.step.value_at_most.Goals as goal
 
 pub returns-then-value-from : goal.returns-then-value-from
 returns-then-value-from c =

@@ -9,10 +9,10 @@ use Rattle.c_grammar.specs.Token.{Token, Sign}
 use Rattle.c_grammar.specs.Spelling.{spell_type, spell_result, spell_cast}
 use Rattle.token_parsing.specs.Parser.{Parser, Outcome, and_then, begins, again, repeat}
 use Rattle.token_parsing.proofs.Tracked.{Shrinks, Along, Tracked, one_shrinks, pure_shrinks, then_shrinks, takes_token, along_some, same_begins, track_first, track_second, track_then, track_token, track_pure, track_plain, track_left, track_turn, track_no_turn}
-use Rattle.c_parser.specs.Classes.{same_word, same_mark, names, words, marks, scalars, scalar_casts}
-use Rattle.c_parser.specs.Types.{struct_type, byte_type, void_pointer, base_type, pointer_to, stars, object_type, after_void, result_type, struct_pointer, void_cast, cast_type}
-use Rattle.c_parser.proofs.Shrinks.{pointer_to_shrinks, stars_shrinks, after_shrinks}
-use Rattle.c_parser.proofs.TrackedTokens.{mark_tracked, word_tracked, name_tracked}
+use Rattle.c_expr_parser.specs.Classes.{same_word, same_mark, names, words, marks, scalars, scalar_casts}
+use Rattle.c_expr_parser.specs.Types.{struct_type, byte_type, void_pointer, base_type, pointer_to, stars, object_type, after_void, result_type, struct_pointer, void_cast, cast_type}
+use Rattle.c_expr_parser.proofs.Shrinks.{pointer_to_shrinks, stars_shrinks, after_shrinks}
+use Rattle.c_expr_parser.proofs.TrackedTokens.{mark_tracked, word_tracked, name_tracked}
 
 -- no star is next
 abbrev pub NoStar : List Token → Type 0

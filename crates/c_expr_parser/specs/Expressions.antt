@@ -5,8 +5,8 @@ use Rattle.c_grammar.specs.declared.token.Word.TheVariants as word
 use Rattle.c_grammar.specs.declared.token.Mark.TheVariants as mark
 use Rattle.c_grammar.specs.Token.{Token}
 use Rattle.token_parsing.specs.Parser.{Parser, ◌>>=◌, pure, stop, one_of, begins, rest, either, repeat}
-use Rattle.c_parser.specs.Classes.{names, numbers, words, marks, unaries, binaries, cast_words, expect, expect_word}
-use Rattle.c_parser.specs.Types.{cast_type}
+use Rattle.c_expr_parser.specs.Classes.{names, numbers, words, marks, unaries, binaries, cast_words, expect, expect_word}
+use Rattle.c_expr_parser.specs.Types.{cast_type}
 
 -- the largest numbers of `INT64_C` and `UINT64_C`
 abbrev pub largest_int : ℕ

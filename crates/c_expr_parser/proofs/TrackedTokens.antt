@@ -14,7 +14,7 @@ use Rattle.c_grammar.specs.Token.{Token, Identifier, Numeral, Quoted, Sign}
 use Rattle.c_grammar.specs.Spelling.{unary_mark, binary_mark}
 use Rattle.token_parsing.specs.Parser.{Parser, and_then, one_of}
 use Rattle.token_parsing.proofs.Tracked.{Shrinks, Along, Tracked, track_token}
-use Rattle.c_parser.specs.Classes.{same_word, same_mark, if_true, names, numbers, words, marks, unaries, binaries, expect, expect_word}
+use Rattle.c_expr_parser.specs.Classes.{same_word, same_mark, if_true, names, numbers, words, marks, unaries, binaries, expect, expect_word}
 
 mark_here : (m : Mark) → marks m (Sign m) ≡ Some tt
 unfolding same_mark

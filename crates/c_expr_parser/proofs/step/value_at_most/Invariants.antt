@@ -1,6 +1,6 @@
 use Rattle.std.proofs.Common.{◌≡◌, ◌≤◌, length}
 use Rattle.std.specs.Str.Parse.{digits_value, digits_value_after}
-use Rattle.c_parser.proofs.step.value_at_most.Given as goal
+use Rattle.c_expr_parser.proofs.step.value_at_most.Given as goal
 
 -- the digits that were read make the value, which is not too large
 abbrev pub invariant-loop-rest : goal.invariant-loop-rest

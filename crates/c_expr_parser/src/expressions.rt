@@ -1,8 +1,8 @@
 //! Expressions and places, by recursive descent. `depth` is how many levels may still nest.
 ghost use Rattle.std.specs.Prelude.{◌≡◌};
 ghost use Rattle.c_grammar.specs.Seen.{tokens_of};
-ghost use Rattle.c_parser.specs.Expressions as spec;
-ghost use Rattle.c_parser.specs.Classes.{cast_words};
+ghost use Rattle.c_expr_parser.specs.Expressions as spec;
+ghost use Rattle.c_expr_parser.specs.Classes.{cast_words};
 ghost use Rattle.token_parsing.specs.Parser.{Gives, begins};
 
 use crate::step::{

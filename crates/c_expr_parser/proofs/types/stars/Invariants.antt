@@ -2,9 +2,9 @@ use Rattle.std.proofs.Common.{◌≡◌, ◌-◌}
 use Rattle.c_grammar.specs.declared.token.Mark.TheVariants as mark
 use Rattle.c_grammar.specs.Seen.{tokens_of}
 use Rattle.token_parsing.specs.Parser.{begins, again}
-use Rattle.c_parser.specs.Classes.{marks}
-use Rattle.c_parser.specs.Types as spec
-use Rattle.c_parser.proofs.types.stars.Given as goal
+use Rattle.c_expr_parser.specs.Classes.{marks}
+use Rattle.c_expr_parser.specs.Types as spec
+use Rattle.c_expr_parser.proofs.types.stars.Given as goal
 
 -- what is still to read gives what the whole gives
 abbrev pub invariant-loop-turn : goal.invariant-loop-turn

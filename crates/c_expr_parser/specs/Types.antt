@@ -7,7 +7,7 @@ use Rattle.c_grammar.specs.declared.token.Word.TheVariants as word
 use Rattle.c_grammar.specs.declared.token.Mark.TheVariants as mark
 use Rattle.c_grammar.specs.Token.{Token}
 use Rattle.token_parsing.specs.Parser.{Parser, ◌>>=◌, pure, one_of, begins, either, repeat}
-use Rattle.c_parser.specs.Classes.{names, words, marks, scalars, scalar_casts, expect, expect_word}
+use Rattle.c_expr_parser.specs.Classes.{names, words, marks, scalars, scalar_casts, expect, expect_word}
 
 -- "struct" Id
 unfoldable pub struct_type : Parser Token ObjectType

@@ -14,10 +14,10 @@ use Rattle.c_grammar.specs.Seen.{AreTokens}
 use Rattle.c_grammar.proofs.Spelled.{type_follow, cast_follow}
 use Rattle.token_parsing.specs.Parser.{begins}
 use Rattle.token_parsing.proofs.Fair.{At, reads, at_spelled, fair_then, fair_either, fair_repeat, fair_token}
-use Rattle.c_parser.specs.Classes.{names, words, marks, scalar_of, scalars, scalar_cast_of, scalar_casts}
-use Rattle.c_parser.specs.Types.{struct_type, byte_type, void_pointer, base_type, pointer_to, stars, object_type, after_void, result_type, struct_pointer, void_cast, cast_type}
-use Rattle.c_parser.proofs.FairTokens.{FairC, mark_fair, word_fair, name_fair, a_name, a_name_is}
-use Rattle.c_parser.proofs.Holes.{begins_by, TypeHole, ResultHole, CastHole}
+use Rattle.c_expr_parser.specs.Classes.{names, words, marks, scalar_of, scalars, scalar_cast_of, scalar_casts}
+use Rattle.c_expr_parser.specs.Types.{struct_type, byte_type, void_pointer, base_type, pointer_to, stars, object_type, after_void, result_type, struct_pointer, void_cast, cast_type}
+use Rattle.c_expr_parser.proofs.FairTokens.{FairC, mark_fair, word_fair, name_fair, a_name, a_name_is}
+use Rattle.c_expr_parser.proofs.Holes.{begins_by, TypeHole, ResultHole, CastHole}
 
 abbrev pub ReadType : List Token → (List Token → List Token) → ObjectType → List Token → Type 0
 ReadType all front of r = At all (λ u. front (spell_type of u)) r × IsObjectType of

@@ -1,29 +1,16 @@
--- What stands before a closing parenthesis, read by itself or with what follows.
+-- The arguments of a call up to its semicolon, and an expression in parentheses, read by themselves or with what follows.
 use Rattle.std.proofs.Common.{◌≡◌, ℕ, List, Ok, Err, refl, sym, subst}
 use Rattle.c_tree.specs.Tree.{Expr}
 use Rattle.c_grammar.specs.declared.token.Mark.TheVariants as mark
 use Rattle.c_grammar.specs.Token.{Token}
 use Rattle.token_parsing.specs.Parser.{Outcome, Parser, and_then}
-use Rattle.token_parsing.proofs.Tracked.{Shrinks, Tracked, one_shrinks, then_shrinks, pure_shrinks}
-use Rattle.c_parser.specs.Classes.{expect}
-use Rattle.c_parser.specs.Expressions.{closed}
+use Rattle.token_parsing.proofs.Tracked.{Shrinks, Tracked, one_shrinks, then_shrinks}
+use Rattle.c_expr_parser.specs.Classes.{expect}
 use Rattle.c_parser.specs.Statements.{listed_arguments, arguments, enclosed}
-use Rattle.c_parser.proofs.FairTokens.{FairC}
+use Rattle.c_expr_parser.proofs.Closed.{then_then, closed_shrinks}
+use Rattle.c_expr_parser.proofs.FairTokens.{FairC}
 
-then_then : {A B C : Type 0} (o : Outcome Token A) (f : A → Parser Token B) (g : B → Parser Token C) → and_then (and_then o f) g ≡ and_then o (λ a s. and_then (f a s) g)
-then_then (Ok p) f g = refl
-then_then (Err e) f g = refl
-
-closed_by : {A B : Type 0} (o : Outcome Token A) (f : A → Parser Token B) → and_then (and_then o (λ a s. and_then (expect mark.Close s) (λ _ s. Ok (a, s)))) f ≡ and_then o (λ a s. and_then (expect mark.Close s) (λ _ s. f a s))
-closed_by (Ok p) f = then_then (expect mark.Close p.1) (λ _ s. Ok (p.0, s)) f
-closed_by (Err e) f = refl
-
-module _ {B : Type 0} (child : Parser Token Expr) (f : Expr → Parser Token B) (s : List Token) where
-  closed_then : and_then (closed child s) f ≡ and_then (child s) (λ a s. and_then (expect mark.Close s) (λ _ s. f a s))
-  unfolding closed
-  closed_then = closed_by (child s) f
-
--- the same before a semicolon too
+-- what stands before a parenthesis and a semicolon
 ended_by : {A B : Type 0} (o : Outcome Token A) (f : A → Parser Token B)
     → and_then (and_then o (λ a s. and_then (expect mark.Close s) (λ _ s. and_then (expect mark.Semicolon s) (λ _ s. Ok (a, s))))) f ≡ and_then o (λ a s. and_then (expect mark.Close s) (λ _ s. and_then (expect mark.Semicolon s) (λ _ s. f a s)))
 ended_by (Ok p) f = by (expect mark.Close p.1)
@@ -45,28 +32,17 @@ module _ {B : Type 0} (child : Parser Token Expr) (f : List Expr → Parser Toke
 
 -- ---- of what is taken
 
-pub closed_shrinks : (child : Parser Token Expr) → Shrinks child → Shrinks (closed child)
-unfolding closed
-closed_shrinks child h = then_shrinks h (λ a. then_shrinks (one_shrinks _) (λ _. pure_shrinks _))
-
 pub enclosed_shrinks : (child : Parser Token Expr) → Shrinks child → Shrinks (enclosed child)
 unfolding enclosed
 enclosed_shrinks child h = then_shrinks (one_shrinks _) (λ _. closed_shrinks child h)
 
 -- ---- of all tokens
 
-pub fair_closed : {B : Type 0} {all : List Token} {Q : B → List Token → Type 0} (child : Parser Token Expr) (s : List Token) (f : Expr → Parser Token B)
-    → FairC all Q (and_then (child s) (λ a s. and_then (expect mark.Close s) (λ _ s. f a s))) → FairC all Q (and_then (closed child s) f)
-fair_closed {all} {Q} child s f h = subst (FairC all Q) (sym (closed_then child f s)) h
-
 pub fair_arguments : {B : Type 0} {all : List Token} {Q : B → List Token → Type 0} (child : Parser Token Expr) (s : List Token) (f : List Expr → Parser Token B)
     → FairC all Q (and_then (expect mark.Open s) (λ _ s. and_then (listed_arguments child s) (λ items s. and_then (expect mark.Close s) (λ _ s. and_then (expect mark.Semicolon s) (λ _ s. f items s))))) → FairC all Q (and_then (arguments child s) f)
 fair_arguments {all} {Q} child s f h = subst (FairC all Q) (sym (arguments_then child f s)) h
 
 module _ {n : ℕ} {W B : Type 0} {y : B} {rest : List Token} (child : Parser Token Expr) (s : List Token) where
-  pub tracked_closed : (f : Expr → Parser Token B) → Tracked n W y rest (and_then (child s) (λ a s. and_then (expect mark.Close s) (λ _ s. f a s))) → Tracked n W y rest (and_then (closed child s) f)
-  tracked_closed f h = subst (Tracked n W y rest) (sym (closed_then child f s)) h
-
   pub tracked_arguments : (f : List Expr → Parser Token B)
       → Tracked n W y rest (and_then (expect mark.Open s) (λ _ s. and_then (listed_arguments child s) (λ items s. and_then (expect mark.Close s) (λ _ s. and_then (expect mark.Semicolon s) (λ _ s. f items s))))) → Tracked n W y rest (and_then (arguments child s) f)
   tracked_arguments f h = subst (Tracked n W y rest) (sym (arguments_then child f s)) h

@@ -2,10 +2,10 @@ use Rattle.std.proofs.Common.{◌≡◌, arith, rules, ap}
 use Rattle.std.proofs.lemmas.Grind.{common_steps}
 use Rattle.c_grammar.specs.Seen.{tokens_of}
 use Rattle.token_parsing.specs.Parser.{again, repeat}
-use Rattle.c_parser.specs.Expressions as expressions
-use Rattle.c_parser.specs.Expressions.{expr, selectors}
-use Rattle.c_parser.proofs.Turns.{one_more, no_more, as_long, deeper}
-use Rattle.c_parser.proofs.expressions.+descent.Goals as goal
+use Rattle.c_expr_parser.specs.Expressions as expressions
+use Rattle.c_expr_parser.specs.Expressions.{expr, selectors}
+use Rattle.c_expr_parser.proofs.Turns.{one_more, no_more, as_long, deeper}
+use Rattle.c_expr_parser.proofs.expressions.+descent.Goals as goal
 
 pub expr-returns-then-depth-eq0 : goal.expr-returns-then-depth-eq0
 unfolding expr

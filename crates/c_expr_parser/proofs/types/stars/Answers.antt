@@ -3,11 +3,11 @@ use Rattle.std.proofs.lemmas.Grind.{common_steps}
 use Rattle.c_grammar.specs.declared.token.Mark.TheVariants as mark
 use Rattle.c_grammar.specs.Seen.{tokens_of}
 use Rattle.token_parsing.specs.Parser.{begins, again, repeat}
-use Rattle.c_parser.specs.Classes.{marks}
-use Rattle.c_parser.specs.Types as spec
-use Rattle.c_parser.specs.Types.{stars}
-use Rattle.c_parser.proofs.Turns.{one_more, no_more, as_long}
-use Rattle.c_parser.proofs.types.stars.Goals as goal
+use Rattle.c_expr_parser.specs.Classes.{marks}
+use Rattle.c_expr_parser.specs.Types as spec
+use Rattle.c_expr_parser.specs.Types.{stars}
+use Rattle.c_expr_parser.proofs.Turns.{one_more, no_more, as_long}
+use Rattle.c_expr_parser.proofs.types.stars.Goals as goal
 
 pub loop-turn-init : goal.loop-turn-init
 unfolding stars repeat

@@ -1,8 +1,8 @@
 use Rattle.std.proofs.Common.{◌≡◌, ◌-◌, ◌+◌, ◌*◌}
 use Rattle.c_grammar.specs.Seen.{tokens_of}
 use Rattle.token_parsing.specs.Parser.{again}
-use Rattle.c_parser.specs.Expressions as expressions
-use Rattle.c_parser.proofs.expressions.+descent.Given as goal
+use Rattle.c_expr_parser.specs.Expressions as expressions
+use Rattle.c_expr_parser.proofs.expressions.+descent.Given as goal
 
 -- the levels that are left, and at one level the callers above the called
 abbrev pub decreases-expr : goal.decreases-expr

@@ -19,7 +19,7 @@ use Rattle.c_grammar.specs.Seen.{IsToken, AreTokens}
 use Rattle.c_grammar.specs.Text.{Begins, MayBegin}
 use Rattle.token_parsing.specs.Parser.{Parser, Outcome, and_then, one_of}
 use Rattle.token_parsing.proofs.Fair.{Fair, At, fair_spelled}
-use Rattle.c_parser.specs.Classes.{same_word, same_mark, if_true, names, numbers, words, marks, expect, expect_word, unary_of, binary_of, unaries, binaries}
+use Rattle.c_expr_parser.specs.Classes.{same_word, same_mark, if_true, names, numbers, words, marks, expect, expect_word, unary_of, binary_of, unaries, binaries}
 
 -- ---- which token is of which class
 

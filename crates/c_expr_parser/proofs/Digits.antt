@@ -5,7 +5,7 @@ use lib.ListN.{get_or}
 use Rattle.std.proofs.lemmas.Bool.{lt-leb}
 use Rattle.std.specs.Str.Parse.{digits_value_after}
 use Rattle.std.specs.Char.{digit_value}
-use Rattle.c_parser.specs.Classes.{if_true}
+use Rattle.c_expr_parser.specs.Classes.{if_true}
 
 grows : (n : ℕ) (digits : List ℕ) → n ≤ digits_value_after 10 n digits
 grows n [] = omega arith

@@ -14,13 +14,13 @@ use Rattle.c_grammar.specs.Spelling.{spell_cast, spell_expr, spell_place, unary_
 use Rattle.c_grammar.specs.Grammar.{IsExpr, IsPlace, IsNumber, IsWordNumber}
 use Rattle.token_parsing.specs.Parser.{Parser, Outcome, and_then, begins, rest, again, repeat}
 use Rattle.token_parsing.proofs.Tracked.{Shrinks, Short, stops_short, short_then, Along, ended, last, longer, Tracked, too_deep, one_shrinks, pure_shrinks, then_shrinks, Takes, takes_token, takes_either, along_some, same_begins, begun_short, short_tracked, track_first, track_second, track_then, track_pure, track_plain, track_turn, track_no_turn}
-use Rattle.c_parser.specs.Classes.{same_word, same_mark, names, words, marks, unaries, cast_words}
-use Rattle.c_parser.specs.Expressions.{largest_int, largest_word, number, word_number, null, begins_selector, member, element, selected, selectors, pointee, variable, base_place, place, read_pointee, address, unary, binary, cast, begins_cast, opened, read_variable, expr_by, expr}
-use Rattle.c_parser.specs.Depth.{expr_depth, place_depth}
-use Rattle.c_parser.proofs.Shrinks.{selected_shrinks, selectors_shrinks, pointee_shrinks, place_shrinks, cast_type_shrinks, opened_shrinks, expr_shrinks}
-use Rattle.c_parser.proofs.TrackedTokens.{mark_tracked, word_tracked, name_tracked, number_tracked, unary_tracked, binary_tracked}
-use Rattle.c_parser.proofs.TrackedTypes.{cast_tracked}
-use Rattle.c_parser.proofs.Closed.{closed_shrinks, tracked_closed}
+use Rattle.c_expr_parser.specs.Classes.{same_word, same_mark, names, words, marks, unaries, cast_words}
+use Rattle.c_expr_parser.specs.Expressions.{largest_int, largest_word, number, word_number, null, begins_selector, member, element, selected, selectors, pointee, variable, base_place, place, read_pointee, address, unary, binary, cast, begins_cast, opened, read_variable, expr_by, expr}
+use Rattle.c_expr_parser.specs.Depth.{expr_depth, place_depth}
+use Rattle.c_expr_parser.proofs.Shrinks.{selected_shrinks, selectors_shrinks, pointee_shrinks, place_shrinks, cast_type_shrinks, opened_shrinks, expr_shrinks}
+use Rattle.c_expr_parser.proofs.TrackedTokens.{mark_tracked, word_tracked, name_tracked, number_tracked, unary_tracked, binary_tracked}
+use Rattle.c_expr_parser.proofs.TrackedTypes.{cast_tracked}
+use Rattle.c_expr_parser.proofs.Closed.{closed_shrinks, tracked_closed}
 
 -- no selector is next
 abbrev pub NoSelector : List Token → Type 0

@@ -1,0 +1,11 @@
+pub mod Closed
+pub mod Digits
+pub mod FairExpressions
+pub mod FairTokens
+pub mod FairTypes
+pub mod Holes
+pub mod Shrinks
+pub mod TrackedExpressions
+pub mod TrackedTokens
+pub mod TrackedTypes
+pub mod Turns

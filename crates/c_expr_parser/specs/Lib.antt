@@ -1,0 +1,4 @@
+pub mod Classes
+pub mod Depth
+pub mod Expressions
+pub mod Types
