@@ -2,8 +2,8 @@
 #![tactic(auto)]
 
 use anyhow::{Result, anyhow};
-use c_reader::{CTextFault, LONGEST_INPUT, read};
 use c_machine::{Ended, run};
+use c_reader::{CTextFault, LONGEST_INPUT, read};
 use c_tree::program::CProgram;
 use p2c_outside::{CalmSink, CalmSource};
 use std::{env, fs};
