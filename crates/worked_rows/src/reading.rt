@@ -66,9 +66,8 @@ pub fn rows_of(alloc: Global, text: &str) -> Result<Vec<Row>> {
     };
     for (number, line) in text.lines().enumerate() {
         let at = number.saturating_add(1);
-        reading
-            .read_line(alloc, line)
-            .with_context(|| format_args!("line {at}"))?;
+        let read = reading.read_line(alloc, line);
+        read.context(format_args!("line {at}"))?;
     }
     reading.end_trial(alloc)?;
     Ok(reading.rows)
